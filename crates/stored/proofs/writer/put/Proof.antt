@@ -1,0 +1,74 @@
+-- The bytes before the index are laid down and the others are as they were: that is the invariant.
+use Prim.Native.Nat.{_+_, _-_, _≤_, _<_}
+use mathlib.Core.Path.{_≡_, refl, _∙_}
+use native.Mathlib.Numerals.{add-one}
+use native.Mathlib.Omega.{arith}
+use denote.Ref.{now}
+use lib.ListN.{length, length-set}
+use lib.Seq.{paste, paste-zero, paste-suc}
+use borrow.Author.Needs.{needs}
+use Rattle.stored.proofs.Writing.{pasted}
+use Rattle.stored.proofs.writer.put.Statement.{statement}
+use Rattle.stored.proofs.writer.put.Tie as tie
+
+abbrev Inv-loop : tie.InvT-loop
+Inv-loop buffer₀ at bytes i₀ buffer i =
+    (i ≤ length bytes) × (length buffer ≡ length buffer₀) × (buffer ≡ paste buffer₀ at bytes i)
+
+abbrev μ-loop : tie.MeasureT-loop
+μ-loop buffer₀ at bytes i₀ buffer i = length bytes - i
+
+loop-holds : tie.Need-loop-holds Inv-loop μ-loop
+loop-holds c = (search needs, refl, paste-zero (now (c .args .buffer)) (c .args .at) (now (c .args .bytes)))
+
+shared-slice-read-buffer : tie.Need-shared-slice-read-buffer Inv-loop μ-loop
+shared-slice-read-buffer c = search needs
+
+add-buffer : tie.Need-add-buffer Inv-loop μ-loop
+add-buffer c = search needs
+
+slice-write-buffer : tie.Need-slice-write-buffer Inv-loop μ-loop
+slice-write-buffer c = search needs
+
+add-i : tie.Need-add-i Inv-loop μ-loop
+add-i c = search needs
+
+loop-less : tie.Need-loop-less Inv-loop μ-loop
+loop-less c = search needs
+
+loop-again : tie.Need-loop-again Inv-loop μ-loop
+loop-again c =
+    let p = c .before .before .before .args in
+    let i = c .before .before .loop .i in
+    let more : i < length (now (p .bytes)) = omega arith in
+    let inside : p .at + i < length (now (p .buffer)) = omega arith in (
+      search needs,
+      simp length-set (c .before .before .loop .inv .1),
+      rw (c .before .before .loop .inv .2, add-one)
+          (paste-suc (now (p .buffer)) (p .at) (now (p .bytes)) i 0 inside more),
+    )
+
+same-length : tie.Need-same-length Inv-loop μ-loop
+same-length c = search needs
+
+returns : tie.Need-returns Inv-loop μ-loop
+returns c =
+    let p = c .before .before .args in
+    let all : length (now (p .bytes)) ≤ c .before .loop .i = omega arith in
+    c .before .loop .inv .2 ∙ pasted _ _ _ _ (c .before .before .pre) (c .before .loop .inv .0) all
+
+pub put-spec : {M : Type 1} → statement M
+put-spec =
+    tie.close
+    (tie.spec
+    Inv-loop
+    μ-loop
+    loop-holds
+    shared-slice-read-buffer
+    add-buffer
+    slice-write-buffer
+    add-i
+    loop-less
+    loop-again
+    same-length
+    returns)

@@ -1,0 +1,18 @@
+-- The few words that every definition here is made of: a choice by a test, "some element" and "every element" of a list.
+use mathlib.Core.Bool.{Bool, true, false, _&&_, _||_}
+use mathlib.Core.List.{List, [], _∷_}
+
+-- a where the test holds, else b
+abbrev pub pick {ℓ} : {A : Type ℓ} → Bool → A → A → A
+pick true a b = a
+pick false a b = b
+
+-- the test holds for some element
+abbrev pub some {ℓ} : {A : Type ℓ} → (A → Bool) → List A → Bool
+some p [] = false
+some p (x ∷ xs) = p x || some p xs
+
+-- the test holds for every element
+abbrev pub every {ℓ} : {A : Type ℓ} → (A → Bool) → List A → Bool
+every p [] = true
+every p (x ∷ xs) = p x && every p xs

@@ -1,0 +1,11 @@
+pub mod Choice
+pub mod Items
+pub mod Operators
+pub mod Records
+pub mod Values
+pub mod Networks
+pub mod Machine
+pub mod Reading
+pub mod Writing
+pub mod Entries
+pub mod Tables

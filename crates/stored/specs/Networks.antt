@@ -1,0 +1,8 @@
+-- What a network may be (document 01, "What matches what").
+use Prim.Native.Nat.{ℕ, _-_, _%_, _^_}
+use mathlib.Core.Bool.{Bool, _&&_}
+use lib.Dec.{eqb, leb}
+
+-- the length is at most 32, and the bits after the length are zero
+abbrev pub networkSound : ℕ → ℕ → Bool
+networkSound address length = leb length 32 && eqb (address % 2 ^ (32 - length)) 0
