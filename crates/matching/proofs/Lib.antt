@@ -1,0 +1,9 @@
+-- Laws for the crates above: prefixes of a value, rows of bits, states, cursors and networks.
+pub mod Prefixes
+pub mod Rows
+pub mod States
+pub mod Columns
+pub mod Cursors
+pub mod Networks
+mod Parts
+mod Sweeps
