@@ -1,0 +1,19 @@
+-- The tests on the two words are the definition's own.
+use borrow.Author.Needs.{needs}
+use borrow.Author.Tests.{eq-eqb, ne-eqb}
+use Rattle.judging.proofs.judge.verdict_of.Statement.{statement}
+use Rattle.judging.proofs.judge.verdict_of.Tie as tie
+use Rattle.judging.proofs.judge.verdict_of.Reads as reads
+use Rattle.judging.proofs.judge.verdict_of.Lts as lts
+
+returns : tie.Need-returns
+returns c = simp (eq-eqb _ _ (c .before .if1 .taken), eq-eqb _ _ (c .if2 .taken))
+
+returns-2 : tie.Need-returns-2
+returns-2 c = simp (eq-eqb _ _ (c .before .if1 .taken), ne-eqb _ _ (c .if2 .left))
+
+returns-3 : tie.Need-returns-3
+returns-3 c = simp (ne-eqb _ _ (c .if1 .left))
+
+pub verdict-of-spec : {M : Type 1} → statement M
+verdict-of-spec = tie.close (tie.spec returns returns-2 returns-3)

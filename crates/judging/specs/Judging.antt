@@ -1,0 +1,41 @@
+-- The judge's answer (document 01, "What matches what" and "Order"): the table's refusal, then 9 by column, then the verdict.
+use Prim.Native.Nat.{ℕ}
+use mathlib.Core.Bool.{Bool}
+use mathlib.Core.List.{List}
+use lib.Bits.{bitAnd}
+use lib.Dec.{eqb, ltb}
+use Rattle.stored.specs.Choice.{pick}
+use Rattle.stored.specs.Reading.{reading}
+use Rattle.stored.specs.Entries.{entriesOf}
+use Rattle.stored.specs.Tables.{Statement, tableOf}
+use Rattle.stored.specs.declared.reader.ReadAnswer.{ReadAnswer}
+use Rattle.stored.specs.declared.reader.ReadAnswer.the-variants as A
+use Rattle.judging.specs.Requests.{Value, firstFault, columns}
+use Rattle.judging.specs.Meaning.{someAllows, someDenies}
+use Rattle.judging.specs.declared.judge.Judgement.{Judgement}
+use Rattle.judging.specs.declared.judge.Judgement.the-variants as J
+
+-- the statements of a table
+abbrev pub rowsOf : List ℕ → List Statement
+rowsOf t = tableOf (entriesOf t)
+
+-- DeniedByRule where some deny applies, Allowed where some allow does and no deny, NotMentioned where no statement applies
+abbrev pub verdict : List Value → List Statement → Judgement
+verdict request rows = pick (someDenies request rows) J.DeniedByRule (pick (someAllows request rows) J.Allowed J.NotMentioned)
+
+-- a request judged by statements: 9 at its lowest faulty column
+abbrev pub judged : List Value → List Statement → Judgement
+judged request rows =
+    pick (ltb (firstFault 0 request) columns) (J.Refused 9 (firstFault 0 request)) (verdict request rows)
+
+abbrev pub judgedAs : ReadAnswer → List Value → List Statement → Judgement
+judgedAs (A.Accepted n) request rows = judged request rows
+judgedAs (A.Refused n place) request rows = J.Refused n place
+
+-- the table first, then the request
+unfoldable pub judgement : List ℕ → List Value → Judgement
+judgement t request = judgedAs (reading t) request (rowsOf t)
+
+-- the verdict by sets of rows: all that apply allow, and there are some; none applies; else some deny applies
+abbrev pub verdictOfRows : ℕ → ℕ → Judgement
+verdictOfRows rows allow = pick (eqb (bitAnd rows allow) rows) (pick (eqb rows 0) J.NotMentioned J.Allowed) J.DeniedByRule

@@ -1,0 +1,5 @@
+pub mod Requests
+pub mod Meaning
+pub mod Rows
+pub mod Walk
+pub mod Judging
