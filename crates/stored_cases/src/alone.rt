@@ -1,7 +1,7 @@
 // The writer alone, on items that no byte string can show: values that no kind stands for, short buffers, and places near the
 // table's limit. The buffer holds one filling byte before each, and what of it has changed is printed.
-use crate::cases::print_refusal;
-use crate::text::first_bytes;
+use cases::print::print_refusal;
+use cases::text::first_bytes;
 use stored::items::Column;
 use stored::items::Effect;
 use stored::items::Item;

@@ -1,8 +1,7 @@
 // Runs the reader and the writer of stored tables on the cases of standard input, and then the writer on items that no byte
 // string can show. One line for each case says what came out.
 mod alone;
-mod cases;
-mod text;
+mod tables;
 mod walk;
 
 // The text of the cases, one table at a time, and what the writer writes of it.
@@ -11,6 +10,6 @@ fn main() {
     let mut table = [0u8; 20000];
     let mut buffer = [0u8; 16384];
     let size = io::read_full(0, &mut text);
-    cases::run_cases(&text[..size], &mut table, &mut buffer);
+    tables::run_cases(&text[..size], &mut table, &mut buffer);
     alone::run_items();
 }
