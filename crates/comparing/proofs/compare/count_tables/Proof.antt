@@ -1,0 +1,88 @@
+-- What the reader says of each table decides first.
+use Prim.Native.Nat.{ℕ, suc, _+_, _-_, _*_, _^_, _≤_, _<_, min}
+use mathlib.Core.Path.{_≡_, refl, sym, _∙_, ap, ap₂, subst}
+use mathlib.Core.Bool.{Bool, true, false}
+use mathlib.Core.List.{List, [], _∷_, _++_}
+use native.Mathlib.Omega.{arith}
+use lib.ListN.{length, getD}
+use Rattle.stored.specs.Tables.{Statement}
+use Rattle.judging.specs.Requests.{Value, absent, text, number, isPresent, columnOf}
+use Rattle.judging.specs.Judging.{rowsOf}
+use Rattle.stored.specs.Reading.{reading}
+use Rattle.stored.specs.declared.reader.ReadAnswer.the-variants as A
+use Rattle.comparing.specs.Gaps.{Counted}
+use Rattle.comparing.specs.Compared.{firstWide, IsCount, IsAnswer, keeps, workspaceWords, valueBytes}
+use Rattle.comparing.specs.Kinds.{countOf, printsIn}
+use Rattle.comparing.specs.Survey.{Listed}
+use Rattle.comparing.specs.declared.answers.Counting.{Counting}
+use Rattle.comparing.specs.declared.answers.Counting.the-variants as C
+use Rattle.comparing.specs.declared.answers.Showing.{Showing}
+use Rattle.comparing.specs.declared.answers.Showing.the-variants as S
+use Rattle.comparing.proofs.BothRead.{both-read}
+use Rattle.comparing.proofs.NotWide.{not-wide}
+use Rattle.comparing.proofs.Answering.{answer-wide, answer-crowded, answer-over, answer-yes, survey-crowded, survey-listed, within-kinds, counts-gaps, shows-gap, answer-shown, answer-none, answer-first, answer-second, answer-both, answer-short, answer-long, left-short, left-long, short-first, short-second, long-both}
+use borrow.Author.Needs.{needs}
+use Rattle.comparing.proofs.compare.count_tables.Statement.{statement}
+use Rattle.comparing.proofs.compare.count_tables.Tie as tie
+use Rattle.comparing.proofs.compare.count_tables.Reads as reads
+use Rattle.comparing.proofs.compare.count_tables.Lts as lts
+use Rattle.comparing.proofs.compare.count_read.Reads as count-read-reads
+use Rattle.stored.proofs.reader.read.Reads as read-reads
+
+read-requires : tie.Need-read-requires
+read-requires c κs = search needs
+
+enum-known-number : tie.Need-enum-known-number
+enum-known-number c = search needs
+
+enum-known-rows : tie.Need-enum-known-rows
+enum-known-rows c = search needs
+
+read-requires-2 : tie.Need-read-requires-2
+read-requires-2 c κs = search needs
+
+enum-known-number-2 : tie.Need-enum-known-number-2
+enum-known-number-2 c = search needs
+
+enum-told : tie.Need-enum-told
+enum-told c = search needs
+
+count-read-requires : tie.Need-count-read-requires
+count-read-requires c κs =
+    let a = c .before .before .before .before .before .before .before .before .before .before .before .args in
+    let h = c .before .before .before .before .before .before .before .before .before .before .before .pre in
+    (both-read (a .first .now) (a .second .now) (c .before .before .before .before .before .rows .given .0 .0) (c .before .enum-told .given .0 .0) (sym (c .before .before .before .before .before .before .before .read .ensures) ∙ c .before .before .before .before .before .rows .given .1) (sym (c .before .before .before .read2 .ensures) ∙ c .before .enum-told .given .1), h)
+
+returns : tie.Need-returns
+returns c =
+    let a = c .before .before .before .before .before .before .before .args in
+    answer-first C.Refused IsCount (a .first .now) (a .second .now) _ (c .before .number .given .0 .0) (c .before .number .given .0 .1 .0) (sym (c .before .before .before .read .ensures) ∙ c .before .number .given .1) refl
+
+returns-2 : tie.Need-returns-2
+returns-2 c =
+    let a = c .before .before .before .before .before .before .before .before .before .before .before .args in
+    answer-second C.Refused IsCount (a .first .now) (a .second .now) _ (c .before .before .before .before .before .rows .given .0 .0) (c .before .number2 .given .0 .0) (c .before .number2 .given .0 .1 .0) (sym (c .before .before .before .before .before .before .before .read .ensures) ∙ c .before .before .before .before .before .rows .given .1) (sym (c .before .before .before .read2 .ensures) ∙ c .before .number2 .given .1) refl
+
+same-length : tie.Need-same-length
+same-length c = search needs
+
+returns-3 : tie.Need-returns-3
+returns-3 c =
+    let a = c .before .before .before .before .before .before .before .before .before .before .before .before .before .before .args in
+    answer-both C.Refused IsCount (a .first .now) (a .second .now) _ (c .before .before .before .before .before .before .before .before .rows .given .0 .0) (c .before .before .before .before .enum-told .given .0 .0) (sym (c .before .before .before .before .before .before .before .before .before .before .read .ensures) ∙ c .before .before .before .before .before .before .before .before .rows .given .1) (sym (c .before .before .before .before .before .before .read2 .ensures) ∙ c .before .before .before .before .enum-told .given .1) (c .before .before .count-read .ensures)
+
+pub count-tables-spec : {M : Type 1} → statement M
+count-tables-spec =
+    tie.close
+    (tie.spec
+    read-requires
+    enum-known-number
+    enum-known-rows
+    read-requires-2
+    enum-known-number-2
+    enum-told
+    count-read-requires
+    returns
+    returns-2
+    same-length
+    returns-3)

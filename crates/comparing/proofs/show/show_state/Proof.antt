@@ -1,0 +1,73 @@
+-- The lowest state that shows the footprint is there, and its string is the first value.
+use Prim.Native.Nat.{ℕ, suc, _+_, _-_, _*_, _^_, _≤_, _<_, min}
+use mathlib.Core.Path.{_≡_, refl, sym, _∙_, ap, ap₂, subst}
+use mathlib.Core.Bool.{Bool, true, false}
+use mathlib.Core.List.{List, [], _∷_, _++_}
+use native.Mathlib.Omega.{arith}
+use lib.ListN.{length, getD}
+use Rattle.stored.specs.Tables.{Statement}
+use Rattle.judging.specs.Requests.{Value, absent, text, number, isPresent, columnOf}
+use Rattle.judging.specs.Judging.{rowsOf}
+use lib.Seq.{sets}
+use Rattle.matching.specs.Codes.{codesOf}
+use Rattle.comparing.specs.Columns.{valuesIn}
+use Rattle.comparing.specs.Search.{stringOf}
+use Rattle.comparing.proofs.FirstFound.{codes-few, starts-low, string-found, string-short}
+use Rattle.comparing.proofs.StringsOfRows.{keyed}
+use borrow.Author.Needs.{needs}
+use Rattle.comparing.proofs.show.show_state.Statement.{statement}
+use Rattle.comparing.proofs.show.show_state.Tie as tie
+use Rattle.comparing.proofs.show.show_state.Reads as reads
+use Rattle.comparing.proofs.show.show_state.Lts as lts
+use Rattle.comparing.proofs.show.find_state.Reads as find-state-reads
+use Rattle.comparing.proofs.strings.lay_string.Reads as lay-string-reads
+
+find-state-requires : tie.Need-find-state-requires
+find-state-requires c κs =
+    let a = c .before .before .before .before .args in
+    let h = c .before .before .before .before .pre in
+    (h .0, h .1, starts-low (rowsOf (a .first .now)) (rowsOf (a .second .now)) (a .column) (codes-few (rowsOf (a .first .now)) (rowsOf (a .second .now)) (a .column) (h .1 .narrow)) (a .words .now) (a .states) (h .1 .explored) (a .from) (h .2) (h .3), h .4)
+
+mul-lay-string : tie.Need-mul-lay-string
+mul-lay-string c = search needs
+
+lay-string-requires : tie.Need-lay-string-requires
+lay-string-requires c κs =
+    let a = c .before .before .before .before .before .before .args in
+    let h = c .before .before .before .before .before .before .pre in
+    let found =
+    string-found (rowsOf (a .first .now)) (rowsOf (a .second .now)) (a .column) (codes-few (rowsOf (a .first .now)) (rowsOf (a .second .now)) (a .column) (h .1 .narrow)) (a .words .now) (a .states) (h .1 .explored) (a .from) (h .2) (h .3)
+    (a .print) (h .6 .0) (h .6 .1) (c .before .find-state .result) (c .before .find-state .ensures) in (
+      record {
+        keyed = keyed (codesOf (valuesIn (a .column) (rowsOf (a .first .now) ++ rowsOf (a .second .now)))) (a .words .now) (a .states) _ (h .1 .explored);
+        low = found .0;
+        few = h .1 .explored .few;
+        room = omega (arith, h .4);
+      },
+      omega (arith, h .3, h .5),
+    )
+
+same-length : tie.Need-same-length
+same-length c = search needs
+
+returns : tie.Need-returns
+returns c =
+    let a = c .before .before .before .before .before .before .before .before .before .args in
+    let h = c .before .before .before .before .before .before .before .before .before .pre in
+    λ s w.
+    let found =
+    string-found (rowsOf (a .first .now)) (rowsOf (a .second .now)) (a .column) (codes-few (rowsOf (a .first .now)) (rowsOf (a .second .now)) (a .column) (h .1 .narrow)) (a .words .now) (a .states) (h .1 .explored) (a .from) (h .2) (h .3)
+    (a .print) s w (c .before .before .before .before .find-state .result) (c .before .before .before .before .find-state .ensures) in
+    record {
+      bytes = c .before .before .lay-string .ensures .0 ∙ ap (sets (a .values .now) (a .column * 512)) (found .1);
+      there = refl;
+      size = c .before .before .lay-string .ensures .1 ∙ ap length (found .1);
+      short =
+          subst (λ (x : List ℕ). length x ≤ 512) (found .1)
+          (string-short (rowsOf (a .first .now)) (rowsOf (a .second .now)) (a .column) (codes-few (rowsOf (a .first .now)) (rowsOf (a .second .now)) (a .column) (h .1 .narrow)) (a .words .now) (a .states) (h .1 .explored) (a .from) (h .2) (h .3)
+          (c .before .before .before .before .find-state .result) (found .0));
+    }
+
+pub show-state-spec : {M : Type 1} → statement M
+show-state-spec =
+    tie.close (tie.spec find-state-requires mul-lay-string lay-string-requires same-length returns)

@@ -1,0 +1,162 @@
+-- The footprints of the rows before the one at hand were added: that is the invariant. A row's footprint is that of its string, which has the row.
+use Prim.Native.Nat.{ℕ, suc, _+_, _-_, _*_, _≤_, _<_}
+use mathlib.Core.Path.{_≡_, refl, sym, ap, _∙_}
+use mathlib.Core.Bool.{Bool}
+use mathlib.Core.List.{List, _++_, map}
+use native.Mathlib.Omega.{arith}
+use lib.ListN.{length, take}
+use borrow.Author.Tests.{ne-eqb}
+use Rattle.stored.specs.Choice.{pick}
+use Rattle.matching.specs.Codes.{codesOf}
+use Rattle.judging.specs.Requests.{Value, absent, text}
+use Rattle.judging.specs.Judging.{rowsOf}
+use Rattle.comparing.specs.Columns.{valuesIn}
+use Rattle.comparing.specs.Kinds.{printsAt}
+use Rattle.comparing.specs.Product.{printOf}
+use Rattle.comparing.specs.Search.{mostStates, stringOf, addingRows}
+use Rattle.comparing.specs.Survey.{printsBetween, printAt}
+use Rattle.comparing.proofs.AddingPrints.{row-added, front-kept}
+use Rattle.comparing.proofs.StatesKept.{row-stays}
+use Rattle.comparing.proofs.Exploring.{string-reaches}
+use borrow.Author.Needs.{needs}
+use Rattle.comparing.proofs.survey.gather_rows.Statement.{statement}
+use Rattle.comparing.proofs.survey.gather_rows.Tie as tie
+use Rattle.comparing.proofs.survey.gather_rows.Reads as reads
+use Rattle.comparing.proofs.survey.gather_rows.Lts as lts
+use Rattle.comparing.proofs.explore.row_at.Reads as row-at-reads
+use Rattle.comparing.proofs.prints.state_print.Reads as state-print-reads
+use Rattle.comparing.proofs.survey.add_print.Reads as add-print-reads
+
+abbrev Inv-loop : tie.InvT-loop
+Inv-loop words₀ first second column from start row states own size to₀ i₀ words to i =
+    (row ≤ i) × (i ≤ states) × (start ≤ to) × (to ≤ start + (i - row)) × (length words ≡ length words₀)
+    × (take (printsAt + start) words ≡ take (printsAt + start) words₀)
+    × ((found : List ℕ) → printsBetween words₀ from start ≡ map (printAt (rowsOf first) (rowsOf second) column words₀) found
+    → printsBetween words from to
+    ≡ map (printAt (rowsOf first) (rowsOf second) column words₀) (addingRows (printAt (rowsOf first) (rowsOf second) column words₀) found row (i - row)))
+
+abbrev μ-loop : tie.MeasureT-loop
+μ-loop words₀ first second column from start row states own size to₀ i₀ words to i = states - i
+
+loop-holds : tie.Need-loop-holds Inv-loop μ-loop
+loop-holds c =
+    let a = c .before .before .before .args in (
+      omega arith,
+      c .before .before .before .pre .2,
+      omega arith,
+      omega arith,
+      refl,
+      refl,
+      λ found h.
+          h
+          ∙ ap
+          (λ (n : ℕ).
+          map (printAt (rowsOf (a .first .now)) (rowsOf (a .second .now)) (a .column) (a .words .now))
+          (addingRows (printAt (rowsOf (a .first .now)) (rowsOf (a .second .now)) (a .column) (a .words .now)) found (a .row) n))
+          {x = 0} {y = a .row - a .row} (omega arith),
+    )
+
+row-at-requires : tie.Need-row-at-requires Inv-loop μ-loop
+row-at-requires c κs =
+    let few = c .before .before .before .before .before .before .pre .1 .explored .few in
+    let room = c .before .before .before .before .before .before .pre .4 in
+    omega arith
+
+state-print-requires : tie.Need-state-print-requires Inv-loop μ-loop
+state-print-requires c κs =
+    let l = c .before .before .before .loop in
+    let a = c .before .before .before .before .before .before .before .args in
+    let h = c .before .before .before .before .before .before .before .pre in
+    let few = h .1 .explored .few in (
+      h .0 .one,
+      h .0 .two,
+      h .0 .few,
+      h .0 .more,
+      h .0 .rows,
+      h .1 .mine,
+      h .1 .narrow,
+      (
+        stringOf (a .words .now) (l .i),
+        string-reaches (codesOf (valuesIn (a .column) (rowsOf (a .first .now) ++ rowsOf (a .second .now)))) (a .words .now) (a .states) _ (h .1 .explored) (l .i) (omega arith) .0
+            ∙ sym
+            (c .row-at .ensures
+            ∙ row-stays (a .words .now) (l .words) (front-kept (l .words) (a .words .now) (printsAt + a .start) printsAt (l .inv .5) (omega arith)) (l .i) (omega arith)),
+      ),
+    )
+
+add-print-requires : tie.Need-add-print-requires Inv-loop μ-loop
+add-print-requires c κs =
+    let l = c .before .before .before .before .before .loop in
+    let h = c .before .before .before .before .before .before .before .before .before .pre in
+    (omega (arith, h .3, l .inv .2), omega (arith, h .4, l .inv .3, l .inv .4))
+
+add-i : tie.Need-add-i Inv-loop μ-loop
+add-i c = omega (arith, c .before .before .before .before .before .before .before .before .before .before .before .before .pre .1 .explored .few)
+
+loop-less : tie.Need-loop-less Inv-loop μ-loop
+loop-less c = omega arith
+
+loop-again : tie.Need-loop-again Inv-loop μ-loop
+loop-again c =
+    let l = c .before .before .before .before .before .before .before .before .loop in
+    let a = c .before .before .before .before .before .before .before .before .before .before .before .before .args in
+    let h = c .before .before .before .before .before .before .before .before .before .before .before .before .pre in
+    let added = c .before .before .add-print in
+    let low : l .i < a .states = omega arith in
+    let few = h .1 .explored .few in
+    let row =
+    c .before .before .before .before .before .row-at .ensures
+    ∙ row-stays (a .words .now) (l .words) (front-kept (l .words) (a .words .now) (printsAt + a .start) printsAt (l .inv .5) (omega arith)) (l .i) (omega arith) in
+    let is =
+    c .before .before .before .before .state-print .ensures (stringOf (a .words .now) (l .i))
+    (string-reaches (codesOf (valuesIn (a .column) (rowsOf (a .first .now) ++ rowsOf (a .second .now)))) (a .words .now) (a .states) _ (h .1 .explored) (l .i) low .0 ∙ sym row)
+    ∙ ap (λ (t : Bool). printOf (rowsOf (a .first .now)) (rowsOf (a .second .now)) (a .column) (pick t absent (text (stringOf (a .words .now) (l .i)))))
+    (sym (ne-eqb (l .i) mostStates (λ w. omega arith))) in (
+      omega arith,
+      omega arith,
+      omega (arith, added .ensures .low),
+      omega (arith, added .ensures .high),
+      added .ensures .same ∙ l .inv .4,
+      front-kept (added .last .0) (l .words) (printsAt + l .to) (printsAt + a .start) (added .ensures .kept) (omega arith) ∙ l .inv .5,
+      λ found e.
+          row-added (printAt (rowsOf (a .first .now)) (rowsOf (a .second .now)) (a .column) (a .words .now)) (l .words) (added .last .0)
+          (a .from) (l .to) (added .result) (a .row) (l .i) (c .before .before .before .before .state-print .result) found (l .inv .0) is (l .inv .6 found e) (added .ensures),
+    )
+
+same-length : tie.Need-same-length Inv-loop μ-loop
+same-length c = c .before .loop .inv .4
+
+returns : tie.Need-returns Inv-loop μ-loop
+returns c =
+    let l = c .before .loop in
+    let a = c .before .before .before .before .before .args in
+    let all : l .i ≡ a .states = omega arith in
+    record {
+      prints = λ found e.
+          l .inv .6 found e
+          ∙ ap
+          (λ (i : ℕ).
+          map (printAt (rowsOf (a .first .now)) (rowsOf (a .second .now)) (a .column) (a .words .now))
+          (addingRows (printAt (rowsOf (a .first .now)) (rowsOf (a .second .now)) (a .column) (a .words .now)) found (a .row) (i - a .row)))
+          all;
+      low = l .inv .2;
+      high = omega (arith, l .inv .3);
+      kept = l .inv .5;
+      same = l .inv .4;
+    }
+
+pub gather-rows-spec : {M : Type 1} → statement M
+gather-rows-spec =
+    tie.close
+    (tie.spec
+    Inv-loop
+    μ-loop
+    loop-holds
+    row-at-requires
+    state-print-requires
+    add-print-requires
+    add-i
+    loop-less
+    loop-again
+    same-length
+    returns)

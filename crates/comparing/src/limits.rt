@@ -1,0 +1,42 @@
+// The limits of a comparison (document 01, "Comparing" and "Numbers for no"), and how the workspace is laid out.
+
+// Words of a workspace, at least.
+pub const WORKSPACE_WORDS: usize = 8192;
+// Bytes of a value buffer, at least, and of one value in it.
+pub const VALUE_BYTES: usize = 3584;
+
+pub const VALUE_ROOM: usize = 512;
+// The sum of (length plus 1) over the values of a column, and the networks of column 7.
+pub const MOST_POSITIONS: usize = 512;
+
+pub const MOST_NETWORKS: usize = 128;
+// The states of a column.
+pub const MOST_STATES: usize = 512;
+// The answer where there are more.
+pub const TOO_MANY_STATES: usize = 513;
+// The product of the footprint counts.
+pub const MOST_KINDS: u64 = 16777216;
+
+// The bytes of strings.
+pub const FIRST_BYTE: u8 = 0x21;
+
+pub const LAST_BYTE: u8 = 0x7E;
+
+// In the workspace: 512 rows of eight words, the key of each row, the codes of the column's positions, and the footprints of all
+// columns, one behind the other.
+pub const KEYS: usize = 4096;
+
+pub const CODES: usize = 4608;
+
+pub const PRINTS: usize = 5120;
+
+pub const COLUMNS: usize = 8;
+
+// The column of addresses.
+pub const ADDRESSES: usize = 7;
+
+// One past the highest address.
+pub const NO_ADDRESS: u64 = 0x100000000;
+
+// The set of all rows.
+pub const ALL_ROWS: u64 = 0xFFFFFFFFFFFFFFFF;
