@@ -1,0 +1,2 @@
+-- What the proofs of the entry points share.
+pub mod Flags

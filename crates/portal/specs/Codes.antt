@@ -1,0 +1,52 @@
+-- Answers as numbers. Below 2 ^ 32 is the answer itself; a refusal is table * 2 ^ 48 + number * 2 ^ 32 + place; a shown gap has bit 63.
+use Prim.Native.Nat.{ℕ, _+_, _*_, _/_, _%_, _^_}
+use mathlib.Core.Bool.{Bool, true, false}
+use lib.Dec.{eqb}
+use Rattle.judging.specs.declared.request.Present.{Present}
+use Rattle.judging.specs.declared.judge.Judgement.{Judgement}
+use Rattle.judging.specs.declared.judge.Judgement.the-variants as J
+use Rattle.comparing.specs.declared.answers.Counting.{Counting}
+use Rattle.comparing.specs.declared.answers.Counting.the-variants as C
+use Rattle.comparing.specs.declared.answers.Shape.{Shape}
+use Rattle.comparing.specs.declared.answers.Showing.{Showing}
+use Rattle.comparing.specs.declared.answers.Showing.the-variants as S
+
+-- bit i of a number
+abbrev pub isSet : ℕ → ℕ → Bool
+isSet flags i = eqb (flags / 2 ^ i % 2) 1
+
+-- bit i says that the key with code i is there
+abbrev pub presentOf : ℕ → Present
+presentOf flags =
+    record { vpc = isSet flags 0; prefix = isSet flags 1; vpce = isSet flags 2; referer = isSet flags 3; address = isSet flags 4 }
+
+abbrev pub flagOf : Bool → ℕ → ℕ
+flagOf true flag = flag
+flagOf false flag = 0
+
+abbrev pub flagsOf : Present → ℕ
+flagsOf p = flagOf (p .vpc) 1 + flagOf (p .prefix) 2 + flagOf (p .vpce) 4 + flagOf (p .referer) 8 + flagOf (p .address) 16
+
+-- the number, the table and the place of a refusal (every place is below 2 ^ 32)
+abbrev pub refusalCode : ℕ → ℕ → ℕ → ℕ
+refusalCode number table place = table * 0x1000000000000 + number * 0x100000000 + place % 0x100000000
+
+-- 0 NotMentioned, 1 Allowed, 2 DeniedByRule
+abbrev pub judgementCode : Judgement → ℕ
+judgementCode J.Allowed = 1
+judgementCode J.DeniedByRule = 2
+judgementCode J.NotMentioned = 0
+judgementCode (J.Refused n place) = refusalCode n 0 place
+
+-- the number of gaps
+abbrev pub countingCode : Counting → ℕ
+countingCode (C.Gaps n) = n
+countingCode (C.Refused n table place) = refusalCode n table place
+
+-- 2 ^ 63 + present * 2 ^ 32 + address
+abbrev pub shapeCode : Shape → ℕ
+shapeCode shape = 0x8000000000000000 + flagsOf (shape .present) * 0x100000000 + shape .address
+
+abbrev pub showingCode : Showing → ℕ
+showingCode (S.Shown shape) = shapeCode shape
+showingCode (S.Refused n table place) = refusalCode n table place
