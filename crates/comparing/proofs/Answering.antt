@@ -4,9 +4,8 @@ use mathlib.Core.Path.{_≡_, refl, sym, _∙_, ap, ap₂, subst}
 use mathlib.Core.Bool.{Bool, true, false, _||_}
 use mathlib.Core.List.{List, [], _∷_, _++_, map}
 use mathlib.Core.Logic.{inl, inr}
-use native.Mathlib.Omega.{arith}
 use lib.Dec.{ltb}
-use lib.ListN.{length, drop, replicate, length-map}
+use lib.ListN.{length, replicate, length-map}
 use borrow.Author.Tests.{lt-ltb, le-ltb, ltb-false}
 use Rattle.stored.specs.Choice.{pick}
 use Rattle.stored.specs.Reading.{reading}
@@ -15,13 +14,12 @@ use Rattle.stored.specs.declared.reader.ReadAnswer.the-variants as A
 use Rattle.judging.specs.Requests.{Value, columns}
 use Rattle.judging.specs.Judging.{rowsOf}
 use Rattle.comparing.specs.Gaps.{Counted}
-use Rattle.comparing.specs.Compared.{workspaceWords, mostKinds, firstWide, Crowded, product, FromWidths, FromTables, Answered, cleared, valueBytes, firstLong, shapeOf, laid, IsAnswer, keeps}
-use Rattle.comparing.specs.Kinds.{countOf, printsIn, printsAlong, pathOf, Bounded}
-use Rattle.comparing.specs.Product.{AllFirsts, printsFrom, SidesOf, valuesAt}
+use Rattle.comparing.specs.Compared.{workspaceWords, mostKinds, firstWide, Crowded, product, FromWidths, FromTables, Answered, cleared, valueBytes, IsAnswer}
+use Rattle.comparing.specs.Kinds.{countOf, printsIn, printsAlong, pathOf}
+use Rattle.comparing.specs.Product.{printsFrom, SidesOf, valuesAt}
 use Rattle.comparing.specs.ShownValues.{RequestWith, LaysGap}
 use Rattle.comparing.specs.Survey.{Listed, Surveyed}
 use Rattle.comparing.specs.declared.answers.Shape.{Shape}
-use Rattle.comparing.specs.declared.answers.Showing.{Showing}
 use Rattle.comparing.specs.declared.answers.Showing.the-variants as S
 use Rattle.comparing.specs.declared.kinds.Sides.{Sides}
 use Rattle.comparing.specs.declared.survey.AllColumns.{AllColumns}

@@ -17,12 +17,12 @@ use Rattle.matching.specs.Codes.{codesOf}
 use Rattle.matching.specs.Rows.{rowOf}
 use Rattle.matching.proofs.States.{row-empty}
 use Rattle.matching.proofs.Columns.{same-row}
-use Rattle.judging.specs.Requests.{Value, absent, text, number, isPresent}
+use Rattle.judging.specs.Requests.{Value, absent, text, number}
 use Rattle.comparing.specs.Order.{Before}
 use Rattle.comparing.specs.Requests.{Admitted, AdmitsNeeded, AdmitsOptional, AdmitsAddress}
-use Rattle.comparing.specs.Gaps.{Alike, FirstOf}
+use Rattle.comparing.specs.Gaps.{Alike}
 use Rattle.comparing.specs.Columns.{valuesIn, sumOf, networksIn, Few}
-use Rattle.comparing.specs.Compared.{bytesIn, addressIn}
+use Rattle.comparing.specs.Compared.{bytesIn}
 use Rattle.comparing.specs.Product.{printOf}
 use Rattle.comparing.specs.Search.{mostStates, rowAt, Explored, Exceeded, stringOf, nextEdge}
 use Rattle.comparing.specs.ShownValues.{FirstWith, StartsAt, FoundState, LaidValue, Lays, LaysString, NoneBelow}

@@ -1,11 +1,10 @@
 -- The values of a gap, laid one after the other over zeros, each in its 512 bytes: what is laid down is what the answer says.
 use Prim.Native.Nat.{ℕ, zero, suc, _+_, _-_, _*_, _≤_, _<_}
-use mathlib.Core.Path.{_≡_, refl, sym, _∙_, ap, ap₂, subst}
-use mathlib.Core.Bool.{Bool, true, false}
+use mathlib.Core.Path.{_≡_, refl, sym, _∙_, ap, ap₂}
+use mathlib.Core.Bool.{Bool}
 use mathlib.Core.List.{List, [], _∷_, _++_, append-assoc}
 use native.Mathlib.Omega.{arith}
-use lib.Dec.{ltb}
-use lib.ListN.{length, getD, take, drop, replicate, length-append, length-replicate, replicate-append-replicate}
+use lib.ListN.{length, drop, replicate, length-append, length-replicate, replicate-append-replicate}
 use lib.Seq.{sets, sets-eq, take-at, drop-at, drop-drop}
 use borrow.Author.Tests.{le-ltb}
 use Rattle.stored.specs.Choice.{pick}
@@ -13,7 +12,7 @@ use Rattle.stored.specs.Tables.{Statement}
 use Rattle.judging.specs.Requests.{Value, absent, text, number, isPresent, columns, columnOf}
 use Rattle.comparing.specs.Requests.{Each, AdmitsAddress}
 use Rattle.comparing.specs.Gaps.{FirstOf}
-use Rattle.comparing.specs.Compared.{valueBytes, valueRoom, bytesIn, addressIn, padded, laid, firstLong, shapeOf}
+use Rattle.comparing.specs.Compared.{valueBytes, valueRoom, bytesIn, addressIn, padded, laid, firstLong}
 use Rattle.comparing.specs.ShownValues.{LaidValue, LaidGap}
 use Rattle.comparing.specs.declared.answers.Shape.{Shape}
 use Rattle.comparing.specs.declared.show.ShownText.{ShownText}

@@ -1,11 +1,10 @@
 -- What the functions that show a gap promise each other: in each column the first value that has the gap's footprint, laid down in its
 -- place in the value buffer.
-use Prim.Native.Nat.{ℕ, zero, suc, _*_, _≤_, _<_}
+use Prim.Native.Nat.{ℕ, suc, _*_, _≤_, _<_}
 use mathlib.Core.Path.{_≡_}
-use mathlib.Core.Bool.{Bool}
 use mathlib.Core.List.{List, [], _∷_, _++_}
 use lib.Dec.{ltb}
-use lib.ListN.{length, drop, replicate}
+use lib.ListN.{length, drop}
 use lib.Seq.{sets}
 use Rattle.stored.specs.Choice.{pick}
 use Rattle.stored.specs.Tables.{Statement}

@@ -171,7 +171,8 @@ fn find_read(
         return Showing::Refused(13, 0, 0);
     }
     let prints = gap_prints(words, bounds, sides, k);
-    Showing::Shown(show_gap(words, first, second, rows as u64, prints, values))
+    let shape = show_gap(words, first, second, rows as u64, prints, values);
+    Showing::Shown(shape)
 }
 
 // Gap k, where the workspace and the value buffer are long enough.

@@ -1,26 +1,9 @@
 -- What the reader says of each table decides first.
-use Prim.Native.Nat.{ℕ, suc, _+_, _-_, _*_, _^_, _≤_, _<_, min}
-use mathlib.Core.Path.{_≡_, refl, sym, _∙_, ap, ap₂, subst}
-use mathlib.Core.Bool.{Bool, true, false}
-use mathlib.Core.List.{List, [], _∷_, _++_}
-use native.Mathlib.Omega.{arith}
-use lib.ListN.{length, getD}
-use Rattle.stored.specs.Tables.{Statement}
-use Rattle.judging.specs.Requests.{Value, absent, text, number, isPresent, columnOf}
-use Rattle.judging.specs.Judging.{rowsOf}
-use Rattle.stored.specs.Reading.{reading}
-use Rattle.stored.specs.declared.reader.ReadAnswer.the-variants as A
-use Rattle.comparing.specs.Gaps.{Counted}
-use Rattle.comparing.specs.Compared.{firstWide, IsCount, IsAnswer, keeps, workspaceWords, valueBytes}
-use Rattle.comparing.specs.Kinds.{countOf, printsIn}
-use Rattle.comparing.specs.Survey.{Listed}
-use Rattle.comparing.specs.declared.answers.Counting.{Counting}
-use Rattle.comparing.specs.declared.answers.Counting.the-variants as C
-use Rattle.comparing.specs.declared.answers.Showing.{Showing}
-use Rattle.comparing.specs.declared.answers.Showing.the-variants as S
+use mathlib.Core.Path.{refl, sym, _∙_}
+use Rattle.judging.specs.Requests.{number}
+use Rattle.comparing.specs.Compared.{IsAnswer, keeps}
 use Rattle.comparing.proofs.BothRead.{both-read}
-use Rattle.comparing.proofs.NotWide.{not-wide}
-use Rattle.comparing.proofs.Answering.{answer-wide, answer-crowded, answer-over, answer-yes, survey-crowded, survey-listed, within-kinds, counts-gaps, shows-gap, answer-shown, answer-none, answer-first, answer-second, answer-both, answer-short, answer-long, left-short, left-long, short-first, short-second, long-both}
+use Rattle.comparing.proofs.Answering.{answer-first, answer-second, answer-both}
 use borrow.Author.Needs.{needs}
 use Rattle.comparing.proofs.compare.find_tables.Statement.{statement}
 use Rattle.comparing.proofs.compare.find_tables.Tie as tie

@@ -1,28 +1,12 @@
 -- A workspace that is too short is left as it is; else all of it is zero at the end.
-use Prim.Native.Nat.{ℕ, suc, _+_, _-_, _*_, _^_, _≤_, _<_, min}
-use mathlib.Core.Path.{_≡_, refl, sym, _∙_, ap, ap₂, subst}
-use mathlib.Core.Bool.{Bool, true, false}
-use mathlib.Core.List.{List, [], _∷_, _++_}
-use native.Mathlib.Omega.{arith}
-use lib.ListN.{length, getD, replicate}
-use Rattle.stored.specs.Tables.{Statement}
-use Rattle.judging.specs.Requests.{Value, absent, text, number, isPresent, columnOf}
-use Rattle.judging.specs.Judging.{rowsOf}
+use Prim.Native.Nat.{ℕ}
+use mathlib.Core.Path.{refl, _∙_, ap}
+use lib.ListN.{length, replicate}
 use lib.Dec.{ltb}
 use borrow.Author.Tests.{lt-ltb, le-ltb}
-use Rattle.stored.specs.Reading.{reading}
-use Rattle.stored.specs.declared.reader.ReadAnswer.the-variants as A
-use Rattle.comparing.specs.Gaps.{Counted}
-use Rattle.comparing.specs.Compared.{firstWide, IsCount, IsAnswer, keeps, workspaceWords, valueBytes}
-use Rattle.comparing.specs.Kinds.{countOf, printsIn}
-use Rattle.comparing.specs.Survey.{Listed}
-use Rattle.comparing.specs.declared.answers.Counting.{Counting}
+use Rattle.comparing.specs.Compared.{IsCount, workspaceWords}
 use Rattle.comparing.specs.declared.answers.Counting.the-variants as C
-use Rattle.comparing.specs.declared.answers.Showing.{Showing}
-use Rattle.comparing.specs.declared.answers.Showing.the-variants as S
-use Rattle.comparing.proofs.BothRead.{both-read}
-use Rattle.comparing.proofs.NotWide.{not-wide}
-use Rattle.comparing.proofs.Answering.{answer-wide, answer-crowded, answer-over, answer-yes, survey-crowded, survey-listed, within-kinds, counts-gaps, shows-gap, answer-shown, answer-none, answer-first, answer-second, answer-both, answer-short, answer-long, left-short, left-long, short-first, short-second, long-both}
+use Rattle.comparing.proofs.Answering.{answer-short, answer-long, left-short, left-long}
 use borrow.Author.Needs.{needs}
 use Rattle.comparing.proofs.compare.gap_count.Statement.{statement}
 use Rattle.comparing.proofs.compare.gap_count.Tie as tie

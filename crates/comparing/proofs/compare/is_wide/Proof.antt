@@ -1,6 +1,6 @@
 -- The sums of both tables together are those of the rows of both.
 use Prim.Native.Nat.{ℕ, _+_}
-use mathlib.Core.Path.{_≡_, refl, _∙_, ap₂}
+use mathlib.Core.Path.{_∙_, ap₂}
 use lib.Dec.{ltb}
 use Rattle.judging.specs.Judging.{rowsOf}
 use Rattle.comparing.proofs.Narrowing.{wide-strings, wide-networks}

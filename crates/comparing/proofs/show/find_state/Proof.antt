@@ -1,18 +1,14 @@
 -- None of the states before the one at hand has the footprint: that is the invariant.
-use Prim.Native.Nat.{ℕ, suc, _+_, _-_, _*_, _^_, _≤_, _<_, min}
-use mathlib.Core.Path.{_≡_, refl, sym, _∙_, ap, ap₂, subst}
-use mathlib.Core.Bool.{Bool, true, false}
-use mathlib.Core.List.{List, [], _∷_, _++_}
+use Prim.Native.Nat.{ℕ, _-_, _≤_, _<_}
+use mathlib.Core.Path.{_≡_, sym, _∙_}
+use mathlib.Core.List.{_++_}
 use native.Mathlib.Omega.{arith}
-use lib.ListN.{length, getD}
-use Rattle.stored.specs.Tables.{Statement}
-use Rattle.judging.specs.Requests.{Value, absent, text, number, isPresent, columnOf}
+use Rattle.judging.specs.Requests.{text}
 use Rattle.judging.specs.Judging.{rowsOf}
 use Rattle.matching.specs.Codes.{codesOf}
-use Rattle.matching.specs.Rows.{rowOf}
 use Rattle.comparing.specs.Columns.{valuesIn}
 use Rattle.comparing.specs.Product.{printOf}
-use Rattle.comparing.specs.Search.{rowAt, stringOf}
+use Rattle.comparing.specs.Search.{stringOf}
 use Rattle.comparing.proofs.Exploring.{string-reaches}
 use Rattle.comparing.proofs.FirstFound.{none-next}
 use borrow.Author.Needs.{needs}

@@ -1,13 +1,10 @@
 -- No address below the one at hand has the footprint, and absence has not: that is the invariant. An address between two edges is like the
 -- edge below it.
-use Prim.Native.Nat.{ℕ, suc, _+_, _-_, _*_, _^_, _≤_, _<_, min}
-use mathlib.Core.Path.{_≡_, refl, sym, _∙_, ap, ap₂, subst}
-use mathlib.Core.Bool.{Bool, true, false}
-use mathlib.Core.List.{List, [], _∷_, _++_}
+use Prim.Native.Nat.{ℕ, _-_, _^_, _≤_, min}
+use mathlib.Core.Path.{_≡_, sym, _∙_, ap, ap₂, subst}
+use mathlib.Core.List.{List, _++_}
 use native.Mathlib.Omega.{arith}
-use lib.ListN.{length, getD}
-use Rattle.stored.specs.Tables.{Statement}
-use Rattle.judging.specs.Requests.{Value, absent, text, number, isPresent, columnOf}
+use Rattle.judging.specs.Requests.{absent, isPresent}
 use Rattle.judging.specs.Judging.{rowsOf}
 use Rattle.comparing.specs.Columns.{networksIn}
 use Rattle.comparing.specs.Compared.{addressIn}

@@ -1,12 +1,9 @@
 -- Each column shows the first value with its footprint, and the values lie one behind the other over zeros.
-use Prim.Native.Nat.{ℕ, suc, _+_, _-_, _*_, _^_, _≤_, _<_, min}
-use mathlib.Core.Path.{_≡_, refl, sym, _∙_, ap, ap₂, subst}
-use mathlib.Core.Bool.{Bool, true, false}
-use mathlib.Core.List.{List, [], _∷_, _++_}
+use Prim.Native.Nat.{ℕ, _<_}
+use mathlib.Core.Path.{_∙_}
 use native.Mathlib.Omega.{arith}
-use lib.ListN.{length, getD}
-use Rattle.stored.specs.Tables.{Statement}
-use Rattle.judging.specs.Requests.{Value, absent, text, number, isPresent, columnOf}
+use lib.ListN.{getD}
+use Rattle.judging.specs.Requests.{columnOf}
 use Rattle.judging.specs.Judging.{rowsOf}
 use Rattle.comparing.specs.ShownValues.{FirstWith}
 use Rattle.comparing.proofs.AlongPath.{first-at}

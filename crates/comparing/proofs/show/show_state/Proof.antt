@@ -1,17 +1,13 @@
 -- The lowest state that shows the footprint is there, and its string is the first value.
-use Prim.Native.Nat.{ℕ, suc, _+_, _-_, _*_, _^_, _≤_, _<_, min}
-use mathlib.Core.Path.{_≡_, refl, sym, _∙_, ap, ap₂, subst}
-use mathlib.Core.Bool.{Bool, true, false}
-use mathlib.Core.List.{List, [], _∷_, _++_}
+use Prim.Native.Nat.{ℕ, _*_, _≤_}
+use mathlib.Core.Path.{refl, _∙_, ap, subst}
+use mathlib.Core.List.{List, _++_}
 use native.Mathlib.Omega.{arith}
-use lib.ListN.{length, getD}
-use Rattle.stored.specs.Tables.{Statement}
-use Rattle.judging.specs.Requests.{Value, absent, text, number, isPresent, columnOf}
+use lib.ListN.{length}
 use Rattle.judging.specs.Judging.{rowsOf}
 use lib.Seq.{sets}
 use Rattle.matching.specs.Codes.{codesOf}
 use Rattle.comparing.specs.Columns.{valuesIn}
-use Rattle.comparing.specs.Search.{stringOf}
 use Rattle.comparing.proofs.FirstFound.{codes-few, starts-low, string-found, string-short}
 use Rattle.comparing.proofs.StringsOfRows.{keyed}
 use borrow.Author.Needs.{needs}

@@ -1,13 +1,11 @@
 -- Where nothing is listed, one byte is the first value; where absence shows the footprint, that is; else the string of the lowest state that
 -- shows it.
-use Prim.Native.Nat.{ℕ, suc, _+_, _-_, _*_, _^_, _≤_, _<_, min}
-use mathlib.Core.Path.{_≡_, refl, sym, _∙_, ap, ap₂, subst}
-use mathlib.Core.Bool.{Bool, true, false}
-use mathlib.Core.List.{List, [], _∷_, _++_}
+use mathlib.Core.Path.{refl, sym, _∙_, subst}
+use mathlib.Core.Bool.{false}
+use mathlib.Core.List.{_++_}
 use native.Mathlib.Omega.{arith}
-use lib.ListN.{length, getD}
-use Rattle.stored.specs.Tables.{Statement}
-use Rattle.judging.specs.Requests.{Value, absent, text, number, isPresent, columnOf}
+use lib.ListN.{length}
+use Rattle.judging.specs.Requests.{Value}
 use Rattle.judging.specs.Judging.{rowsOf}
 use Rattle.comparing.specs.Columns.{valuesIn}
 use Rattle.comparing.specs.ShownValues.{LaidValue}
