@@ -1,0 +1,51 @@
+-- Four columns, each behind the one before it.
+use Rattle.gaps.proofs.Laying.{joined}
+use borrow.Author.Needs.{needs}
+use Rattle.gaps.proofs.lines.put_keys.Statement.{statement}
+use Rattle.gaps.proofs.lines.put_keys.Tie as tie
+
+slice-aggregate-put-column : tie.Need-slice-aggregate-put-column
+slice-aggregate-put-column c = search needs
+
+put-column-requires : tie.Need-put-column-requires
+put-column-requires c κs = search needs
+
+slice-aggregate-put-column-2 : tie.Need-slice-aggregate-put-column-2
+slice-aggregate-put-column-2 c = search needs
+
+put-column-requires-2 : tie.Need-put-column-requires-2
+put-column-requires-2 c κs = search needs
+
+slice-aggregate-put-column-3 : tie.Need-slice-aggregate-put-column-3
+slice-aggregate-put-column-3 c = search needs
+
+put-column-requires-3 : tie.Need-put-column-requires-3
+put-column-requires-3 c κs = search needs
+
+slice-aggregate-put-column-4 : tie.Need-slice-aggregate-put-column-4
+slice-aggregate-put-column-4 c = search needs
+
+put-column-requires-4 : tie.Need-put-column-requires-4
+put-column-requires-4 c κs = search needs
+
+same-length : tie.Need-same-length
+same-length c = search needs
+
+returns : tie.Need-returns
+returns c =
+    joined (joined (joined (c .before .before .before .before .before .before .before .before .before .before .before .before .before .before .before .before .before .put-column .ensures) (c .before .before .before .before .before .before .before .before .before .before .before .before .put-column2 .ensures)) (c .before .before .before .before .before .before .before .put-column3 .ensures)) (c .before .before .put-column4 .ensures)
+
+pub put-keys-spec : {M : Type 1} → statement M
+put-keys-spec =
+    tie.close
+    (tie.spec
+    slice-aggregate-put-column
+    put-column-requires
+    slice-aggregate-put-column-2
+    put-column-requires-2
+    slice-aggregate-put-column-3
+    put-column-requires-3
+    slice-aggregate-put-column-4
+    put-column-requires-4
+    same-length
+    returns)
