@@ -1,0 +1,128 @@
+#!/usr/bin/env bash
+# Compares two access tables and prints what the first allows and the second does not: builds the program `gaps` where that is
+# needed, and runs it. What this script says itself goes to standard error; standard output has the program's lines alone.
+set -u
+here=$(cd "$(dirname "${BASH_SOURCE[0]}")" && pwd -P) || exit 2
+program=$here/target/bin/gaps
+built=$here/target/gap-built
+
+usage() {
+    cat <<'TEXT'
+usage: ./gap FIRST SECOND     compare two tables, each in a file
+       ./gap < BOTH           the same, with one table behind the other on standard input
+
+It prints `gaps N`, how many kinds of request the first table allows and the second does not, then the first 16 of them, one a
+line: number, p= principal, a= action, r= resource, and where the request has them k0= aws:SourceVpc, k1= s3:prefix,
+k2= aws:SourceVpce, k3= aws:Referer, ip= aws:SourceIp. Or it prints `refused`, the number of the refusal, the table (1, 2, or 0
+for the comparison) and the place. docs/REFUSALS.md has the numbers.
+
+A file whose name ends in .hex is hex text: two digits a byte, spaces where you like, and # begins a comment. Any other file is
+taken as it is. The status is 0 when the program has answered, a refusal included, and 2 when it was not run.
+
+An example:
+
+    $ ./gap examples/sample/first.hex examples/sample/second.hex
+    gaps 1
+    0 p=! a=A r=r
+
+The first table allows everyone each action that matches `a*` on the resource `r`, the second the action `ab` alone. The shortest
+action that is lost has one letter, and since actions ignore case the first in order is `A`. For everyone stands the first
+principal there is, `!`.
+examples/README.md has four more.
+TEXT
+}
+
+fail() {
+    echo "gap: $*" >&2
+    exit 2
+}
+
+# The bytes of a file: of hex text what it stands for, else as they are.
+bytes_of() { # FILE
+    [ -e "$1" ] || fail "there is no file $1"
+    [ -f "$1" ] && [ -r "$1" ] || fail "$1 cannot be read"
+    case $1 in *.hex) ;; *) cat "$1"; return ;; esac
+    local escapes
+    escapes=$(LC_ALL=C awk -v file="$1" '
+        {
+            sub(/#.*/, "")
+            gsub(/[ \t\r]/, "")
+            if ($0 ~ /[^0-9A-Fa-f]/) { print "gap: " file ", line " NR ": only hex digits, spaces and # comments are expected" > "/dev/stderr"; bad = 1; exit }
+            if (length($0) % 2) { print "gap: " file ", line " NR ": a hex digit is missing, since a byte has two" > "/dev/stderr"; bad = 1; exit }
+            for (i = 1; i < length($0); i += 2) printf "\\x%s", substr($0, i, 2)
+        }
+        END { if (bad) exit 1 }' "$1") || exit 2
+    # shellcheck disable=SC2059
+    printf "$escapes"
+}
+
+# Says so where the program will take something else than the first file as the first table: that ends with the first record 05.
+note_first() { # FILE NAME
+    od -An -v -tu1 "$1" | awk '
+        BEGIN { at = 0; size = 0 }
+        { for (i = 1; i <= NF; i++) byte[size++] = $i }
+        END {
+            while (at < size && byte[at] != 5) {
+                kind = byte[at]
+                if (kind >= 1 && kind <= 3) at += 2
+                else if (kind == 4) at += 3
+                else if (kind == 6) at += 6
+                else if (kind >= 64 && kind <= 191) at += kind - 62
+                else break
+            }
+            exit !(at + 1 == size && byte[at] == 5)
+        }' || echo "gap: note: $2 does not end with its first record 05, so the first table that the program sees is not just this file" >&2
+}
+
+# Proves and builds the program, unless that was done since its source last changed.
+build() {
+    [ -x "$program" ] && [ -e "$built" ] && [ -z "$(find "$here/crates" "$here/crates.txt" -newer "$built" -print | head -n 1)" ] && return
+    command -v rt >/dev/null 2>&1 || fail "the Rattle toolchain is not installed: its command rt is not on the PATH"
+    echo "gap: proving and building the program (rt check gaps); the first time this takes some minutes" >&2
+    (cd "$here" && rt check gaps) >&2 || fail "the program was not built"
+    touch "$built"
+}
+
+# Runs the program as the toolchain does: under its own loader and C library, and on a machine that is not x86-64 under its own emulator.
+run() {
+    local home tools loader emulator word
+    command -v rt >/dev/null 2>&1 || [ -n "${RATTLE_HOME:-}" ] || fail "the Rattle toolchain is not installed: its command rt is not on the PATH"
+    home=${RATTLE_HOME:-$(dirname "$(dirname "$(readlink -f "$(command -v rt)")")")}
+    tools=$home/on/$(uname -m)/toolchain
+    loader=$tools/lib/ld-linux-x86-64.so.2
+    [ -e "$loader" ] || fail "the Rattle toolchain at $home has no loader for programs on this machine, $(uname -m)"
+    emulator=$tools/bin/qemu-x86_64
+    [ -x "$emulator" ] || emulator=
+    for word in $(env | sed -n 's/^\(QEMU_[A-Za-z0-9_]*\)=.*/\1/p'); do unset "$word"; done
+    ${emulator:+"$emulator"} "$loader" --library-path "$tools/lib" "$program" || fail "the program ended with status $?"
+}
+
+case $# in
+0)
+    if [ -t 0 ]; then
+        usage
+        exit
+    fi
+    build
+    run
+    ;;
+1)
+    case $1 in -h | --help) usage; exit ;; esac
+    usage >&2
+    exit 2
+    ;;
+2)
+    room=$(mktemp -d) || exit 2
+    trap 'rm -rf "$room"' EXIT
+    bytes_of "$1" >"$room/first"
+    bytes_of "$2" >"$room/second"
+    cat "$room/first" "$room/second" >"$room/both"
+    build
+    note_first "$room/first" "$1"
+    run <"$room/both"
+    ;;
+*)
+    usage >&2
+    exit 2
+    ;;
+esac
