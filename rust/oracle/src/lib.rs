@@ -1,0 +1,14 @@
+//! An independent second opinion on document 01, written from its text alone and for plainness:
+//! slow where that is clearer, and sharing neither code nor tables with the verified crates.
+
+pub mod compare;
+pub mod judge;
+pub mod limits;
+pub mod matching;
+pub mod program;
+pub mod table;
+
+pub use compare::{compare, gap_buffer, CompareRefusal, Comparison, Gap};
+pub use judge::{judge, Request, Verdict};
+pub use program::gaps_program;
+pub use table::{read, read_items, Item, Refusal, Table, Writer};

@@ -1,0 +1,12 @@
+//! The tests of the oracle, by the headings of document 01.
+
+mod bench_list;
+mod build;
+mod comparing;
+mod enumeration;
+mod errors_that_look_right;
+mod gap_program;
+mod judging;
+mod matching;
+mod reading;
+mod writing;
