@@ -60,9 +60,9 @@ add_library() {
 # The compiler and what it loads for this machine; its standard library, of the same version, for x86-64.
 choose_packages() {
     local version standard
-    version=$(apt_here apt-cache show --no-all-versions rustc-web | sed -n 's/^Version: //p')
+    version=$(apt_here apt-cache show --no-all-versions rustc-web | awk '/^Version: / { v = $2 } END { print v }')
     [ -n "$version" ] || fail "Debian's lists have no rustc-web for $own"
-    standard=$(dependencies_of libstd-rust-web-dev | grep '^libstd-rust-web-[0-9]' | head -n 1)
+    standard=$(dependencies_of libstd-rust-web-dev | awk '/^libstd-rust-web-[0-9]/ { s = $1 } END { print s }')
     [ -n "$standard" ] || fail "libstd-rust-web-dev does not say which libstd-rust-web it needs"
     packages=()
     add_library "$standard"

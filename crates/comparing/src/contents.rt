@@ -116,7 +116,7 @@ fn networks_of(list: ListAt, item: Item) -> usize
 }
 
 // The sum of (length plus 1) over the values of a column.
-pub fn positions_in(table: &[u8], column: usize) -> usize
+pub(crate) fn positions_in(table: &[u8], column: usize) -> usize
     requires { ⌜ Accepted (entriesOf (now table)) ⌝ }
     ensures { λ r. ⌜ r ≡ sumOf (valuesIn column (rowsOf (now (table .entry)))) ⌝ }
 {
@@ -144,7 +144,7 @@ pub fn positions_in(table: &[u8], column: usize) -> usize
 }
 
 // The networks of column 7.
-pub fn networks_in(table: &[u8]) -> usize
+pub(crate) fn networks_in(table: &[u8]) -> usize
     requires { ⌜ Accepted (entriesOf (now table)) ⌝ }
     ensures { λ r. ⌜ r ≡ length (networksIn (rowsOf (now (table .entry)))) ⌝ }
 {
@@ -230,7 +230,7 @@ fn lay_item(
 }
 
 // Lays the codes of a column's values down, one behind the other, and answers where the next one goes.
-pub fn lay_codes(codes: &mut [u64], from: usize, table: &[u8], column: usize) -> usize
+pub(crate) fn lay_codes(codes: &mut [u64], from: usize, table: &[u8], column: usize) -> usize
     requires { ⌜ Accepted (entriesOf (now table)) × (from + sumOf (valuesIn column (rowsOf (now table))) ≤ length (now codes)) ⌝ }
     ensures next { λ r. ⌜ r ≡ from + sumOf (valuesIn column (rowsOf (now (table .entry)))) ⌝ }
     ensures laid { λ r. ⌜ now (codes .exit) ≡ sets (now (codes .entry)) from (codesOf (valuesIn column (rowsOf (now (table .entry))))) ⌝ }
@@ -303,7 +303,7 @@ fn edge_of(list: ListAt, item: Item, x: u64) -> u64
 }
 
 // The least end of a network above an address, 2 ^ 32 if there is none.
-pub fn next_edge(table: &[u8], x: u64) -> u64
+pub(crate) fn next_edge(table: &[u8], x: u64) -> u64
     requires { ⌜ Accepted (entriesOf (now table)) ⌝ }
     ensures { λ r. ⌜ r ≡ nextEdge (networksIn (rowsOf (now (table .entry)))) x ⌝ }
 {

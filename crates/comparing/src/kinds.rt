@@ -48,7 +48,13 @@ fn is_gap(sides: Sides, rows: u64) -> bool
 
 // The gaps among the kinds of the columns from one on, given the rows still left. Where no allow row of the first table is left there is
 // none.
-pub fn count(words: &[u64], bounds: [usize; 9], sides: Sides, column: usize, rows: u64) -> u64
+pub(crate) fn count(
+    words: &[u64],
+    bounds: [usize; 9],
+    sides: Sides,
+    column: usize,
+    rows: u64,
+) -> u64
     requires { ⌜ Bounded (now words) bounds × (sides .size ≤ 32) × (column ≤ 8) × (product (map length (printsIn (now words) bounds column)) ≤ mostKinds) ⌝ }
     ensures { λ r. ⌜ r ≡ countOf sides (printsIn (now (words .entry)) bounds column) rows ⌝ }
 {
@@ -114,7 +120,7 @@ fn step_to(
 }
 
 // The footprints of gap k, column by column. Behind a column without footprints there are no kinds, and all are 0.
-pub fn gap_prints(words: &[u64], bounds: [usize; 9], sides: Sides, k: u64) -> [u64; 8]
+pub(crate) fn gap_prints(words: &[u64], bounds: [usize; 9], sides: Sides, k: u64) -> [u64; 8]
     requires { ⌜ Bounded (now words) bounds × (sides .size ≤ 32) × (product (map length (printsIn (now words) bounds 0)) ≤ mostKinds) ⌝ }
     ensures { λ r. ⌜ r ≡ printsAlong sides (printsIn (now (words .entry)) bounds 0) (2 ^ 64 - 1) k ⌝ }
 {

@@ -60,7 +60,7 @@ fn step_state(walk: Walk, item: Item, size: usize, column: usize, row: [u64; 8],
 }
 
 // The rows of a table that hold for a state, the positions of the table's values beginning at a place.
-pub fn state_rows(table: &[u8], column: usize, row: [u64; 8], from: usize) -> u64
+pub(crate) fn state_rows(table: &[u8], column: usize, row: [u64; 8], from: usize) -> u64
     requires { ⌜ from ≤ 512 ⌝ }
     ensures { λ r. ⌜ r ≡ doneOf (runState column row freshWalk from (entriesOf (now (table .entry)))) ⌝ }
 {
@@ -99,7 +99,7 @@ fn joined(own: u64, other: u64, size: u64) -> u64
 }
 
 // The footprint of an absent column.
-pub fn absent_print(first: &[u8], second: &[u8], column: usize, size: u64) -> u64
+pub(crate) fn absent_print(first: &[u8], second: &[u8], column: usize, size: u64) -> u64
     requires { ⌜ (length (rowsOf (now first)) ≤ 32) × (length (rowsOf (now second)) ≤ 32) × (size ≡ length (rowsOf (now first))) ⌝ }
     ensures { λ r. ⌜ r ≡ rowsWord (holds column absent) (rowsOf (now (first .entry)) ++ rowsOf (now (second .entry))) ⌝ }
 {
@@ -109,7 +109,7 @@ pub fn absent_print(first: &[u8], second: &[u8], column: usize, size: u64) -> u6
 }
 
 // The footprint of an address.
-pub fn address_print(first: &[u8], second: &[u8], size: u64, address: u32) -> u64
+pub(crate) fn address_print(first: &[u8], second: &[u8], size: u64, address: u32) -> u64
     requires { ⌜ (length (rowsOf (now first)) ≤ 32) × (length (rowsOf (now second)) ≤ 32) × (size ≡ length (rowsOf (now first))) ⌝ }
     ensures { λ r. ⌜ r ≡ rowsWord (holds 7 (number address)) (rowsOf (now (first .entry)) ++ rowsOf (now (second .entry))) ⌝ }
 {
@@ -119,7 +119,7 @@ pub fn address_print(first: &[u8], second: &[u8], size: u64, address: u32) -> u6
 }
 
 // The footprint of every string with a state, the second table's positions beginning behind the first's.
-pub fn state_print(
+pub(crate) fn state_print(
     row: [u64; 8],
     first: &[u8],
     second: &[u8],

@@ -178,7 +178,7 @@ fn gather_addresses(words: &mut [u64], first: &[u8], second: &[u8], from: usize,
 }
 
 // The states of a column of strings: its codes are laid down, then all its states are found. 513 stands for more than 512.
-pub fn states_of(words: &mut [u64], first: &[u8], second: &[u8], column: usize) -> States
+pub(crate) fn states_of(words: &mut [u64], first: &[u8], second: &[u8], column: usize) -> States
     requires { ⌜ Accepted (entriesOf (now first)) × Accepted (entriesOf (now second)) × Narrow (rowsOf (now first) ++ rowsOf (now second)) column × (printsAt ≤ length (now words)) ⌝ }
     ensures { λ r. ⌜ FoundStates (rowsOf (now (first .entry))) (rowsOf (now (second .entry))) column (now (words .entry)) (now (words .exit)) r ⌝ }
 {
@@ -248,7 +248,7 @@ fn next_bound(kinds: u64, from: usize, to: usize) -> usize
 }
 
 // The footprints of all columns, one behind the other; once there are too many kinds, only the states are still counted.
-pub fn survey(words: &mut [u64], first: &[u8], second: &[u8], size: u64) -> AllColumns
+pub(crate) fn survey(words: &mut [u64], first: &[u8], second: &[u8], size: u64) -> AllColumns
     requires { ⌜ BothRead (now first) (now second) size × Surveyable (rowsOf (now first) ++ rowsOf (now second)) (now words) ⌝ }
     ensures { λ r. ⌜ Surveyed (rowsOf (now (first .entry))) (rowsOf (now (second .entry))) (now (words .exit)) r ⌝ }
 {

@@ -1,15 +1,13 @@
 -- The fewest digits that hold a number are the number in decimal.
 use Prim.Native.Nat.{ℕ, zero, suc, _+_, _-_, _*_, _/_, _%_, _^_, _≤_, _<_}
-use mathlib.Core.Path.{_≡_, refl, sym, _∙_, ap}
-use mathlib.Core.Bool.{Bool, true, false, cond}
+use mathlib.Core.Path.{_≡_, refl, ap}
+use mathlib.Core.Bool.{Bool, true, false}
 use mathlib.Core.List.{List, [], _∷_, _++_}
 use native.Mathlib.Omega.{arith}
-use native.Mathlib.Nat.{pow-suc, pow-zero, pow-le-pow-right, div-lt-iff-lt-mul, le-div-iff-mul-le, mod-lt, mod-eq-of-lt}
+use native.Mathlib.Nat.{pow-suc, pow-le-pow-right, div-lt-iff-lt-mul, le-div-iff-mul-le, mod-lt, mod-eq-of-lt}
 use lib.Dec.{ltb}
-use lib.ListN.{length}
 use borrow.Author.Tests.{lt-ltb, le-ltb, ltb-true, ltb-false}
 use Rattle.io.specs.Digits.{glyph, digits, Fewest}
-use Rattle.stored.specs.Choice.{pick}
 use Rattle.gaps.specs.Lines.{digit, decimalDigits, decimalOf}
 
 glyph-digit : (d : ℕ) → d < 10 → glyph d ≡ digit d

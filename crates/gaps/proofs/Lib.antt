@@ -2,3 +2,6 @@
 pub mod Splitting
 pub mod Laying
 pub mod Decimal
+pub mod ShownGap
+pub mod Answered
+pub mod Promises

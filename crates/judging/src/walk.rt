@@ -79,7 +79,7 @@ pub fn began(walk: Walk, counts: bool) -> Walk
 }
 
 // A list opens, in this column or not; ok: what is known of it already.
-pub fn opened(walk: Walk, here: bool, ok: bool, negated: bool, reading: Reading) -> Walk
+pub(crate) fn opened(walk: Walk, here: bool, ok: bool, negated: bool, reading: Reading) -> Walk
     ensures { λ r. ⌜ r ≡ openedOf here ok negated reading walk ⌝ }
 {
     let holds = closed(walk) && ok;
@@ -96,7 +96,7 @@ pub fn opened(walk: Walk, here: bool, ok: bool, negated: bool, reading: Reading)
 }
 
 // A condition opens: of an absent key the operator table has decided already.
-pub fn condition_opened(
+pub(crate) fn condition_opened(
     walk: Walk,
     here: bool,
     present: bool,

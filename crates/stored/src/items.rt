@@ -66,7 +66,7 @@ pub enum FoundKey {
 }
 
 // The code of an effect.
-pub fn effect_code(effect: Effect) -> u8
+pub(crate) fn effect_code(effect: Effect) -> u8
     ensures { λ r. ⌜ r ≡ effectCode effect ⌝ }
 {
     match effect {
@@ -76,7 +76,7 @@ pub fn effect_code(effect: Effect) -> u8
 }
 
 // The code of a column.
-pub fn column_code(column: Column) -> u8
+pub(crate) fn column_code(column: Column) -> u8
     ensures { λ r. ⌜ r ≡ columnCode column ⌝ }
 {
     match column {
@@ -131,7 +131,7 @@ pub fn key_code(key: Key) -> u8
 }
 
 // The key with a code.
-pub fn key_of(code: u8) -> FoundKey
+pub(crate) fn key_of(code: u8) -> FoundKey
     ensures { λ r. ⌜ r ≡ keyOf code ⌝ }
 {
     match code {
@@ -145,7 +145,7 @@ pub fn key_of(code: u8) -> FoundKey
 }
 
 // What a key holds.
-pub fn key_sort(key: Key) -> Sort
+pub(crate) fn key_sort(key: Key) -> Sort
     ensures { λ r. ⌜ r ≡ keySort key ⌝ }
 {
     match key {

@@ -55,7 +55,7 @@ pub enum Turn {
     Refused(u8),
 }
 
-pub fn fresh() -> State
+pub(crate) fn fresh() -> State
     ensures { λ r. ⌜ r ≡ freshState ⌝ }
 {
     State {
@@ -100,7 +100,7 @@ fn is_unknown(kind: Kind) -> bool
     }
 }
 
-pub fn is_ended(phase: Phase) -> bool
+pub(crate) fn is_ended(phase: Phase) -> bool
     ensures { λ r. ⌜ r ≡ isEnded phase ⌝ }
 {
     match phase {
@@ -263,7 +263,7 @@ fn leaves_empty(waiting: bool, kind: Kind) -> bool
 }
 
 // The refusal that the kind alone decides, or 0.
-pub fn due(state: State, kind: Kind) -> u8
+pub(crate) fn due(state: State, kind: Kind) -> u8
     ensures { λ r. ⌜ r ≡ dueOf state kind ⌝ }
 {
     let phase = state.phase;
@@ -508,7 +508,7 @@ fn value_turn(state: State, bytes: &[u8]) -> Turn
 }
 
 // What a whole record decides, once its kind is in turn: 4 for a column, 6, 7, 8, or the next state.
-pub fn take_turn(state: State, item: Item, bytes: &[u8]) -> Turn
+pub(crate) fn take_turn(state: State, item: Item, bytes: &[u8]) -> Turn
     ensures { λ r. ⌜ r ≡ turnOf state item (now (bytes .entry)) ⌝ }
 {
     match item {
@@ -523,7 +523,7 @@ pub fn take_turn(state: State, item: Item, bytes: &[u8]) -> Turn
 }
 
 // The kind of an item's record.
-pub fn kind_of_item(item: Item, length: usize) -> Kind
+pub(crate) fn kind_of_item(item: Item, length: usize) -> Kind
     ensures { λ r. ⌜ r ≡ kindOfItem item length ⌝ }
 {
     match item {
@@ -538,7 +538,7 @@ pub fn kind_of_item(item: Item, length: usize) -> Kind
 }
 
 // The state machine: the next state, or the refusal.
-pub fn admit(state: State, item: Item, bytes: &[u8]) -> Turn
+pub(crate) fn admit(state: State, item: Item, bytes: &[u8]) -> Turn
     ensures { λ r. ⌜ r ≡ admitItem state item (now (bytes .entry)) ⌝ }
 {
     let fault = due(state, kind_of_item(item, bytes.len()));

@@ -3,7 +3,7 @@ ghost use mathlib.Core.Path.{_≡_};
 ghost use Rattle.stored.specs.Networks.{networkSound};
 
 // The length is at most 32, and the bits after it are zero: a nonzero address has at least 32 minus length trailing zero bits.
-pub fn is_sound_network(address: u32, length: u8) -> bool
+pub(crate) fn is_sound_network(address: u32, length: u8) -> bool
     ensures { λ r. ⌜ r ≡ networkSound address length ⌝ }
 {
     if 32 < length {

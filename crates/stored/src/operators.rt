@@ -150,7 +150,7 @@ pub fn operator_row(operator: Operator) -> OperatorRow
 }
 
 // The operator with a code: the first row that has it.
-pub fn operator_of(code: u8) -> FoundOperator
+pub(crate) fn operator_of(code: u8) -> FoundOperator
     ensures { λ r. ⌜ r ≡ operatorOf code ⌝ }
 {
     let mut i: usize = 0;

@@ -22,7 +22,7 @@ pub fn is_in_range(bytes: &[u8]) -> bool
 }
 
 // `${` stands somewhere.
-pub fn has_variable(bytes: &[u8]) -> bool
+pub(crate) fn has_variable(bytes: &[u8]) -> bool
     ensures { λ r. ⌜ r ≡ hasVariable (now (bytes .entry)) ⌝ }
 {
     let mut i: usize = 0;
@@ -38,7 +38,7 @@ pub fn has_variable(bytes: &[u8]) -> bool
 }
 
 // `*` or `?` stands somewhere.
-pub fn has_wildcard(bytes: &[u8]) -> bool
+pub(crate) fn has_wildcard(bytes: &[u8]) -> bool
     ensures { λ r. ⌜ r ≡ hasWildcard (now (bytes .entry)) ⌝ }
 {
     let mut i: usize = 0;
@@ -56,7 +56,7 @@ pub fn has_wildcard(bytes: &[u8]) -> bool
 }
 
 // `*` and nothing else.
-pub fn is_star_alone(bytes: &[u8]) -> bool
+pub(crate) fn is_star_alone(bytes: &[u8]) -> bool
     ensures { λ r. ⌜ r ≡ isStarAlone (now (bytes .entry)) ⌝ }
 {
     if bytes.len() == 1 {
