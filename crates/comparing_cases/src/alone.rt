@@ -56,12 +56,12 @@ fn show_in(name: &[u8], words: &mut [u64], first: &[u8], second: &[u8], k: u64, 
 
 fn run_workspaces(first: &[u8], second: &[u8]) {
     let mut short = [ONES; 8191];
-    let mut long = [ONES; 8200];
+    let mut long = [ONES; 10000];
     let mut none = [ONES; 0];
     count_in(b"workspace-of-8191-words", &mut short, first, second);
     count_in(b"workspace-of-8191-words-no-table", &mut short, b"", b"");
     count_in(b"workspace-of-no-words", &mut none, first, second);
-    count_in(b"workspace-of-8200-words", &mut long, first, second);
+    count_in(b"workspace-of-10000-words", &mut long, first, second);
 }
 
 fn run_short_workspace(first: &[u8], second: &[u8]) {
@@ -99,59 +99,21 @@ fn run_short_values(first: &[u8], second: &[u8]) {
 }
 
 fn run_long_values(name: &[u8], first: &[u8], second: &[u8], k: u64) {
-    let mut words = [ONES; 8200];
+    let mut words = [ONES; 10000];
     let mut values = [FILLING; 3600];
     show_in(name, &mut words, first, second, k, &mut values);
 }
 
 pub fn run_buffers() {
-    let first = [
-        1u8,
-        1,
-        2,
-        1,
-        3,
-        0,
-        64,
-        42,
-        3,
-        1,
-        65,
-        97,
-        42,
-        3,
-        2,
-        64,
-        114,
-        5,
-    ];
-    let second = [
-        1u8,
-        1,
-        2,
-        1,
-        3,
-        0,
-        64,
-        42,
-        3,
-        1,
-        65,
-        97,
-        98,
-        3,
-        2,
-        64,
-        114,
-        5,
-    ];
-    run_workspaces(&first, &second);
-    run_short_workspace(&first, &second);
-    run_short_values(&first, &second);
-    run_long_values(b"gap-0-in-3600-bytes", &first, &second, 0);
-    run_long_values(b"gap-1-in-3600-bytes", &first, &second, 1);
-    run_long_values(b"gap-last-number-in-3600-bytes", &first, &second, ONES);
-    run_long_values(b"gap-of-no-gaps", &second, &first, 0);
-    run_long_values(b"gap-of-a-refused-first-table", b"", &second, 0);
-    run_long_values(b"gap-of-a-refused-second-table", &first, b"", 0);
+    let first = b"\x01\x01\x02\x01\x03\x00@*\x03\x01Aa*\x03\x02@r\x05";
+    let second = b"\x01\x01\x02\x01\x03\x00@*\x03\x01Aab\x03\x02@r\x05";
+    run_workspaces(first, second);
+    run_short_workspace(first, second);
+    run_short_values(first, second);
+    run_long_values(b"gap-0-in-3600-bytes", first, second, 0);
+    run_long_values(b"gap-1-in-3600-bytes", first, second, 1);
+    run_long_values(b"gap-last-number-in-3600-bytes", first, second, ONES);
+    run_long_values(b"gap-of-no-gaps", second, first, 0);
+    run_long_values(b"gap-of-a-refused-first-table", b"", second, 0);
+    run_long_values(b"gap-of-a-refused-second-table", first, b"", 0);
 }
