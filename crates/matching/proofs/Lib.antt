@@ -5,5 +5,6 @@ pub mod States
 pub mod Columns
 pub mod Cursors
 pub mod Networks
+pub mod ByWords
 mod Parts
 mod Sweeps

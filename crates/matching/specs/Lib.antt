@@ -5,4 +5,5 @@ pub mod Codes
 pub mod Cursor
 pub mod State
 pub mod Rows
+pub mod Words
 pub mod Network

@@ -5,3 +5,4 @@ pub mod reading;
 pub mod state;
 pub mod symbols;
 pub mod value;
+pub mod words;

@@ -8,7 +8,7 @@ ghost use Prim.Native.Nat.{_<_};
 ghost use Rattle.matching.specs.Rows.{positions, rowBit, markRow, cellStep, firstRow, stepRow, cellRow};
 
 // The number of positions of a row.
-const POSITIONS: usize = 512;
+pub(crate) const POSITIONS: usize = 512;
 
 // Whether position p is in the state.
 pub fn has_position(row: [u64; 8], p: usize) -> bool

@@ -1,0 +1,101 @@
+// The step of a state by words: which positions a byte leads to, which stand behind a star, and 64 positions at once.
+use crate::codes::BEHIND_ONE;
+use crate::codes::BEHIND_STAR;
+use crate::codes::takes_byte;
+use crate::state::POSITIONS;
+use crate::state::mark;
+ghost use mathlib.Core.Path.{_≡_};
+ghost use mathlib.Core.Bool.{_||_};
+ghost use Prim.Native.Nat.{_≤_};
+ghost use lib.Dec.{eqb};
+ghost use lib.ListN.{length};
+ghost use Rattle.matching.specs.Codes.{oneCode, takesByte};
+ghost use Rattle.matching.specs.Rows.{wordBit, packWord};
+ghost use Rattle.matching.specs.Words.{takenRow, starRow, wordsRow, movedUp, baseBit, overBit};
+
+// Whether the byte b leads to the position with this code from the one in front.
+pub fn takes(code: u64, b: u8) -> bool
+    ensures { λ r. ⌜ r ≡ (eqb code oneCode || takesByte code b) ⌝ }
+{
+    if code == BEHIND_ONE {
+        return true;
+    }
+    takes_byte(code, b)
+}
+
+// The positions to which the byte b leads from the one in front.
+pub fn taken_by(codes: &[u64], b: u8) -> [u64; 8]
+    ensures { λ r. ⌜ r ≡ takenRow (now (codes .entry)) b ⌝ }
+{
+    let mut row = [0u64; 8];
+    let mut p: usize = 0;
+    while p < POSITIONS && p < codes.len() {
+        let taken = takes(codes[p], b);
+        let marked = mark(row, p, taken);
+        row = marked;
+        p += 1;
+    }
+    row
+}
+
+// The positions behind a star.
+pub fn stars_of(codes: &[u64]) -> [u64; 8]
+    ensures { λ r. ⌜ r ≡ starRow (now (codes .entry)) ⌝ }
+{
+    let mut row = [0u64; 8];
+    let mut p: usize = 0;
+    while p < POSITIONS && p < codes.len() {
+        let star = codes[p] == BEHIND_STAR;
+        let marked = mark(row, p, star);
+        row = marked;
+        p += 1;
+    }
+    row
+}
+
+// A word with each bit one position up, and the topmost bit of the word before it as its lowest.
+fn moved_up(word: u64, before: u64) -> u64
+    ensures { λ r. ⌜ r ≡ packWord 64 (movedUp (wordBit word) (wordBit before 63)) ⌝ }
+{
+    (word << 1) | (before >> 63)
+}
+
+// What a byte leads to, and the stars that keep what they had, in one word. before: the old word before it.
+fn base_word(taken: u64, stars: u64, old: u64, before: u64) -> u64
+    ensures { λ r. ⌜ r ≡ packWord 64 (baseBit (wordBit taken) (wordBit stars) (wordBit old) (wordBit before 63)) ⌝ }
+{
+    let moved = moved_up(old, before);
+    (moved & taken) | (old & stars)
+}
+
+// A word in which each star takes over what the position in front has. before: the new word before it. In the sum a run of stars
+// carries from its first seed on, so that exactly the stars that are seeds or reached by the carry change or were seeds.
+fn take_over(base: u64, stars: u64, before: u64) -> u64
+    ensures { λ r. ⌜ r ≡ packWord 64 (overBit (wordBit base) (wordBit stars) (wordBit before 63)) ⌝ }
+{
+    let moved = moved_up(base, before);
+    let seeds = moved & stars;
+    let sum = std::num::wrapping_add_u64(stars, seeds);
+    base | (((sum ^ stars) | seeds) & stars)
+}
+
+// The row of one byte more, by its first words: from the positions to which the byte leads and those behind a star.
+pub fn step_words(taken: &[u64], stars: &[u64], row: [u64; 8], used: usize) -> [u64; 8]
+    requires { ⌜ (8 ≤ length (now taken)) × (8 ≤ length (now stars)) × (used ≤ 8) ⌝ }
+    ensures { λ r. ⌜ r ≡ wordsRow used (now (taken .entry)) (now (stars .entry)) row ⌝ }
+{
+    let mut next = [0u64; 8];
+    let mut old_before: u64 = 0;
+    let mut new_before: u64 = 0;
+    let mut i: usize = 0;
+    while i < used {
+        let old = row[i];
+        let base = base_word(taken[i], stars[i], old, old_before);
+        let new = take_over(base, stars[i], new_before);
+        next[i] = new;
+        old_before = old;
+        new_before = new;
+        i += 1;
+    }
+    next
+}
