@@ -8,3 +8,4 @@ pub mod Networks
 pub mod ByWords
 mod Parts
 mod Sweeps
+mod WordBits

@@ -18,14 +18,14 @@ use Rattle.matching.specs.Rows.{wordBit, rowBit, bitNumber, packWord, pa
 abbrev pub upto : ℕ → (ℕ → Bool) → ℕ → Bool
 upto p f q = ltb q p && f q
 
-below-or-not : (p n : ℕ) → (p < n) ⊎ (n ≤ p)
+pub below-or-not : (p n : ℕ) → (p < n) ⊎ (n ≤ p)
 below-or-not p n = by (ltb p n) refl
   where
     by : (t : Bool) → ltb p n ≡ t → (p < n) ⊎ (n ≤ p)
     by true e = inl (ltb-true p n e)
     by false e = inr (ltb-false p n e)
 
-bit-small : (t : Bool) → bitNumber t < 2
+pub bit-small : (t : Bool) → bitNumber t < 2
 bit-small true = omega arith
 bit-small false = omega arith
 
@@ -33,7 +33,7 @@ bit-is : (t : Bool) → eqb (bitNumber t) 1 ≡ t
 bit-is true = refl
 bit-is false = refl
 
-word-bit : (k i : ℕ) (f : ℕ → Bool) → i < k → wordBit (packWord k f) i ≡ f i
+pub word-bit : (k i : ℕ) (f : ℕ → Bool) → i < k → wordBit (packWord k f) i ≡ f i
 unfolding packWord
 word-bit zero i f h = absurd (not-suc-le-zero h)
 word-bit (suc k) zero f h =
@@ -104,7 +104,7 @@ upto-lacks p f e = fun-ext (λ (q : ℕ). by q (below-or-not q p) (below-or-not 
 
 -- words
 
-word-none : (k : ℕ) (f : ℕ → Bool) → ((i : ℕ) → f i ≡ false) → packWord k f ≡ 0
+pub word-none : (k : ℕ) (f : ℕ → Bool) → ((i : ℕ) → f i ≡ false) → packWord k f ≡ 0
 unfolding packWord
 word-none zero f e = refl
 word-none (suc k) f e =
@@ -149,7 +149,7 @@ word-mark k p f h e =
     ∙ ap (λ (n : ℕ). n + packWord k (upto p f)) (one-mul (2 ^ p))
     ∙ sym (word-add k p f h e)
 
-word-same : (k : ℕ) (f g : ℕ → Bool) → ((i : ℕ) → i < k → f i ≡ g i) → packWord k f ≡ packWord k g
+pub word-same : (k : ℕ) (f g : ℕ → Bool) → ((i : ℕ) → i < k → f i ≡ g i) → packWord k f ≡ packWord k g
 unfolding packWord
 word-same zero f g e = refl
 word-same (suc k) f g e =
