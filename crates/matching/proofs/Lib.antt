@@ -8,4 +8,5 @@ pub mod Networks
 pub mod ByWords
 mod Parts
 mod Sweeps
+mod MarkedRows
 mod WordBits
