@@ -1,19 +1,35 @@
+-- The row so far is the step below word i, and the words before it bring the bits in front of it.
+use mathlib.Core.Path.{_≡_, refl, sym, ap, _∙_}
+use mathlib.Core.Bool.{Bool, false}
+use mathlib.Core.List.{List}
+use Prim.Native.Nat.{ℕ, _+_, _-_, _*_, _≤_}
+use native.Mathlib.Omega.{arith}
+use lib.ListN.{getD, set}
+use Rattle.matching.specs.Rows.{wordBit, rowBit, packWord, pack}
+use Rattle.matching.specs.Words.{setStep, movedUp, wordsRow}
+use Rattle.matching.proofs.Rows.{upto}
+use Rattle.matching.proofs.MarkedRows.{none-marked, lay-more, word-laid, row-carry, new-carry}
 use borrow.Author.Needs.{needs}
 use Rattle.matching.proofs.words.step_words.Statement.{statement}
 use Rattle.matching.proofs.words.step_words.Tie as tie
-use Rattle.matching.proofs.words.step_words.Reads as reads
-use Rattle.matching.proofs.words.step_words.Lts as lts
-use Rattle.matching.proofs.words.base_word.Reads as base-word-reads
-use Rattle.matching.proofs.words.take_over.Reads as take-over-reads
+
+abbrev stepOf : List ℕ → List ℕ → List ℕ → ℕ → Bool
+stepOf taken stars row = setStep (rowBit taken) (rowBit stars) (rowBit row)
 
 abbrev Inv-loop : tie.InvT-loop
-Inv-loop taken stars used row next₀ old-before₀ new-before₀ i₀ next old-before new-before i = ?
+Inv-loop taken stars used row next₀ old-before₀ new-before₀ i₀ next old-before new-before i =
+    (i ≤ used)
+    × (next ≡ pack 8 (upto (64 * i) (stepOf taken stars row)))
+    × (wordBit old-before 63 ≡ movedUp (rowBit row) false (64 * i))
+    × (wordBit new-before 63 ≡ movedUp (stepOf taken stars row) false (64 * i))
 
 abbrev μ-loop : tie.MeasureT-loop
-μ-loop taken stars used row next₀ old-before₀ new-before₀ i₀ next old-before new-before i = ?
+μ-loop taken stars used row next₀ old-before₀ new-before₀ i₀ next old-before new-before i = used - i
 
 loop-holds : tie.Need-loop-holds Inv-loop μ-loop
-loop-holds c = ?
+loop-holds c =
+    let a = c .before .before .args in
+    (omega arith, none-marked (stepOf (a .taken .now) (a .stars .now) (a .t3)), refl, refl)
 
 mul-old : tie.Need-mul-old Inv-loop μ-loop
 mul-old c = search needs
@@ -55,13 +71,31 @@ add-i : tie.Need-add-i Inv-loop μ-loop
 add-i c = search needs
 
 loop-less : tie.Need-loop-less Inv-loop μ-loop
-loop-less c = search needs
+loop-less c = omega arith
 
 loop-again : tie.Need-loop-again Inv-loop μ-loop
-loop-again c = ?
+loop-again c =
+    let l = c .before .before .before .before .before .before .loop in
+    let a = c .before .before .before .before .before .before .before .before .before .args in
+    let f = stepOf (a .taken .now) (a .stars .now) (a .t3) in
+    let laid : c .take-over .result ≡ packWord 64 (λ k. f (64 * l .i + k)) =
+        word-laid (a .taken .now) (a .stars .now) (a .t3) (l .i) (l .old-before) (l .new-before) (c .before .before .base-word .result) (c .take-over .result)
+        (c .before .before .base-word .ensures) (c .take-over .ensures) (l .inv .2) (l .inv .3) in (
+      omega arith,
+      ap (λ (m : List ℕ). set m (l .i) (c .take-over .result)) (l .inv .1)
+          ∙ ap (set (pack 8 (upto (64 * l .i) f)) (l .i)) laid
+          ∙ lay-more 8 (l .i) f (omega arith),
+      row-carry (a .t3) (l .i),
+      new-carry f (l .i) (c .take-over .result) laid,
+    )
 
 returns : tie.Need-returns Inv-loop μ-loop
-returns c = ?
+unfolding wordsRow
+returns c =
+    let l = c .before .loop in
+    let a = c .before .before .before .before .args in
+    let done : l .i ≡ a .used = omega arith in
+    l .inv .1 ∙ ap (λ (n : ℕ). pack 8 (upto (64 * n) (stepOf (a .taken .now) (a .stars .now) (a .t3)))) done
 
 pub step-words-spec : {M : Type 1} → statement M
 step-words-spec =
