@@ -1,4 +1,4 @@
--- Laws for the crates above: prefixes of a value, rows of bits, states, cursors and networks.
+-- Laws for the crates above: prefixes of a value, rows of bits, states, cursors, networks and the step by words.
 pub mod Prefixes
 pub mod Rows
 pub mod States

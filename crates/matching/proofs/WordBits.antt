@@ -1,7 +1,7 @@
 -- The bits of a word: what `&`, `|`, `^`, a sum and a move by one position do to them; so a sum lets each star take over.
-use mathlib.Core.Path.{_≡_, refl, sym, ap, ap₂, _∙_, fun-ext, subst}
+use mathlib.Core.Path.{_≡_, refl, sym, ap, ap₂, _∙_}
 use mathlib.Core.Bool.{Bool, true, false, not, _&&_, _||_, or-false}
-use Prim.Native.Nat.{ℕ, zero, suc, _+_, _*_, _/_, _%_, _^_, _<_, _≤_}
+use Prim.Native.Nat.{ℕ, zero, suc, _+_, _*_, _/_, _%_, _^_, _<_}
 use native.Mathlib.Nat.{pow-succ', div-div-eq-div-mul, div-one, add-mod-right, mod-eq-of-lt, zero-add}
 use native.Mathlib.Omega.{arith}
 use lib.Dec.{eqb}
@@ -30,7 +30,7 @@ bit-behind : (word k : ℕ) → wordBit word (suc k) ≡ wordBit (word / 2) k
 bit-behind word k =
     ap (λ (n : ℕ). eqb (n % 2) 1) (ap (λ (n : ℕ). word / n) (pow-succ' 2 k) ∙ sym (div-div-eq-div-mul word 2 (2 ^ k)))
 
-pub word-packed : (k word : ℕ) → word < 2 ^ k → packWord k (wordBit word) ≡ word
+word-packed : (k word : ℕ) → word < 2 ^ k → packWord k (wordBit word) ≡ word
 unfolding packWord
 word-packed zero word h = omega arith
 word-packed (suc k) word h =
@@ -42,7 +42,7 @@ word-packed (suc k) word h =
     halves : (n : ℕ) → n / 2 * 2 + n % 2 ≡ n
     halves n = omega arith
 
-pub word-fits : (k : ℕ) (f : ℕ → Bool) → packWord k f < 2 ^ k
+word-fits : (k : ℕ) (f : ℕ → Bool) → packWord k f < 2 ^ k
 unfolding packWord
 word-fits zero f = pow-pos 0
 word-fits (suc k) f = doubled (packWord k (λ i. f (suc i))) (bitNumber (f 0)) (word-fits k (λ i. f (suc i))) (bit-small (f 0))
@@ -80,10 +80,10 @@ module _ (op : ℕ → ℕ → ℕ) (on : Bool → Bool → Bool) (none : op 0 0
       block 1 (packWord k (λ i. f (suc i))) (packWord k (λ i. g (suc i))) (bitNumber (f 0)) (bitNumber (g 0)) (bit-small (f 0)) (bit-small (g 0))
       ∙ ap₂ (λ (a r : ℕ). a * 2 + r) (word-op k (λ i. f (suc i)) (λ i. g (suc i))) (bit (f 0) (g 0))
 
-pub word-and : (k : ℕ) (f g : ℕ → Bool) → bitAnd (packWord k f) (packWord k g) ≡ packWord k (λ i. f i && g i)
+word-and : (k : ℕ) (f g : ℕ → Bool) → bitAnd (packWord k f) (packWord k g) ≡ packWord k (λ i. f i && g i)
 word-and = word-op bitAnd (λ x y. x && y) refl and-bit and-block
 
-pub word-or : (k : ℕ) (f g : ℕ → Bool) → bitOr (packWord k f) (packWord k g) ≡ packWord k (λ i. f i || g i)
+word-or : (k : ℕ) (f g : ℕ → Bool) → bitOr (packWord k f) (packWord k g) ≡ packWord k (λ i. f i || g i)
 word-or = word-op bitOr (λ x y. x || y) refl or-bit or-block
 
 word-xor : (k : ℕ) (f g : ℕ → Bool) → bitXor (packWord k f) (packWord k g) ≡ packWord k (λ i. differs (f i) (g i))

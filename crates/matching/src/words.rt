@@ -68,8 +68,9 @@ fn base_word(taken: u64, stars: u64, old: u64, before: u64) -> u64
     (moved & taken) | (old & stars)
 }
 
-// A word in which each star takes over what the position in front has. before: the new word before it. In the sum a run of stars
-// carries from its first seed on, so that exactly the stars that are seeds or reached by the carry change or were seeds.
+// A word in which each star takes over what the position in front has. before: the new word before it. A seed is a star in front of
+// which something is reached; the sum carries from it through the stars behind it, so a star takes over where the sum changed its bit
+// or where it is a seed itself.
 fn take_over(base: u64, stars: u64, before: u64) -> u64
     ensures { λ r. ⌜ r ≡ packWord 64 (overBit (wordBit base) (wordBit stars) (wordBit before 63)) ⌝ }
 {

@@ -1,10 +1,10 @@
 -- The row so far is the step below word i, and the words before it bring the bits in front of it.
-use mathlib.Core.Path.{_≡_, refl, sym, ap, _∙_}
+use mathlib.Core.Path.{_≡_, refl, ap, _∙_}
 use mathlib.Core.Bool.{Bool, false}
 use mathlib.Core.List.{List}
 use Prim.Native.Nat.{ℕ, _+_, _-_, _*_, _≤_}
 use native.Mathlib.Omega.{arith}
-use lib.ListN.{getD, set}
+use lib.ListN.{set}
 use Rattle.matching.specs.Rows.{wordBit, rowBit, packWord, pack}
 use Rattle.matching.specs.Words.{setStep, movedUp, wordsRow}
 use Rattle.matching.proofs.Rows.{upto}

@@ -1,8 +1,8 @@
 -- The row so far has the positions below p to which the byte leads; there are none outside the codes.
-use mathlib.Core.Path.{_≡_, refl, sym, _∙_}
-use Prim.Native.Nat.{ℕ, _-_, _<_, _≤_}
+use mathlib.Core.Path.{_≡_, _∙_}
+use Prim.Native.Nat.{_-_, _≤_}
 use native.Mathlib.Omega.{arith}
-use borrow.Author.Tests.{ltb-true, ltb-false}
+use borrow.Author.Tests.{ltb-false}
 use lib.ListN.{length}
 use Rattle.matching.specs.Rows.{pack}
 use Rattle.matching.specs.Words.{takenBit, takenRow}
