@@ -79,8 +79,8 @@ loop-again c =
     let a = c .before .before .before .before .before .before .before .before .before .args in
     let f = stepOf (a .taken .now) (a .stars .now) (a .t3) in
     let laid : c .take-over .result ≡ packWord 64 (λ k. f (64 * l .i + k)) =
-        word-laid (a .taken .now) (a .stars .now) (a .t3) (l .i) (l .old-before) (l .new-before) (c .before .before .base-word .result) (c .take-over .result)
-        (c .before .before .base-word .ensures) (c .take-over .ensures) (l .inv .2) (l .inv .3) in (
+    word-laid (a .taken .now) (a .stars .now) (a .t3) (l .i) (l .old-before) (l .new-before) (c .before .before .base-word .result) (c .take-over .result)
+    (c .before .before .base-word .ensures) (c .take-over .ensures) (l .inv .2) (l .inv .3) in (
       omega arith,
       ap (λ (m : List ℕ). set m (l .i) (c .take-over .result)) (l .inv .1)
           ∙ ap (set (pack 8 (upto (64 * l .i) f)) (l .i)) laid
