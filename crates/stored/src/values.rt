@@ -1,58 +1,69 @@
-// What the bytes of a value may be (document 01, "Numbers for no", 7 and 8).
-use crate::records::byte_at;
+// What the bytes of a value may be (document 01, "Numbers for no", 7 and 8). No byte ends a loop here, so that the compiler may look at
+// many bytes at once.
 ghost use mathlib.Core.Path.{_≡_};
-ghost use Rattle.stored.specs.Values.{inRange, hasVariable, hasWildcard, isStarAlone};
+ghost use Rattle.stored.specs.Values.{byteInRange, inRange, isWildcard, hasVariable, hasWildcard, isStarAlone};
+
+fn is_byte_in_range(byte: u8) -> bool
+    ensures { λ r. ⌜ r ≡ byteInRange byte ⌝ }
+{
+    if byte < 0x21 {
+        return false;
+    }
+    byte <= 0x7E
+}
 
 // Every byte lies in 21 to 7E hex.
 pub fn is_in_range(bytes: &[u8]) -> bool
     ensures { λ r. ⌜ r ≡ inRange (now (bytes .entry)) ⌝ }
 {
+    let mut every = true;
     let mut i: usize = 0;
     while i < bytes.len() {
-        let byte = bytes[i];
-        if byte < 0x21 {
-            return false;
-        }
-        if 0x7E < byte {
-            return false;
-        }
+        let here = is_byte_in_range(bytes[i]);
+        every = every & here;
         i += 1;
     }
-    true
+    every
 }
 
 // `${` stands somewhere.
 pub(crate) fn has_variable(bytes: &[u8]) -> bool
     ensures { λ r. ⌜ r ≡ hasVariable (now (bytes .entry)) ⌝ }
 {
+    let mut found = false;
+    let mut dollar = false;
     let mut i: usize = 0;
     while i < bytes.len() {
-        if bytes[i] == b'$' {
-            if byte_at(bytes, i + 1) == b'{' {
-                return true;
-            }
-        }
+        let byte = bytes[i];
+        let here = dollar & (byte == b'{');
+        found = found | here;
+        dollar = byte == b'$';
         i += 1;
     }
-    false
+    found
+}
+
+fn is_wildcard(byte: u8) -> bool
+    ensures { λ r. ⌜ r ≡ isWildcard byte ⌝ }
+{
+    if byte == b'*' {
+        return true;
+    }
+    byte == b'?'
 }
 
 // `*` or `?` stands somewhere.
 pub(crate) fn has_wildcard(bytes: &[u8]) -> bool
     ensures { λ r. ⌜ r ≡ hasWildcard (now (bytes .entry)) ⌝ }
 {
+    let mut found = false;
     let mut i: usize = 0;
     while i < bytes.len() {
-        let byte = bytes[i];
-        if byte == b'*' {
-            return true;
-        }
-        if byte == b'?' {
-            return true;
-        }
+        let here = is_wildcard(bytes[i]);
+        found = found | here;
         i += 1;
     }
-    false
+    found
 }
 
 // `*` and nothing else.

@@ -1,47 +1,28 @@
--- `${` does not begin before the index, so the bytes from it on decide: that is the invariant.
-use Prim.Native.Nat.{ℕ, _≤_, _-_}
-use mathlib.Core.Path.{_≡_, sym, _∙_}
-use mathlib.Core.Logic.{_⊎_, inl, inr}
-use lib.ListN.{length, drop}
+-- The invariant: `${` was found, or begins with the byte before the index, or stands in the bytes from the index on.
+use Prim.Native.Nat.{ℕ, _+_, _-_, _≤_}
+use mathlib.Core.Path.{_≡_, refl, sym, ap, _∙_}
+use mathlib.Core.Bool.{Bool, true, false, _&&_, _||_, or-assoc}
+use mathlib.Core.List.{List, _∷_}
+use lib.ListN.{length, getD, drop}
+use lib.Dec.{eqb}
 use borrow.Author.Needs.{needs}
-use borrow.Author.Tests.{eq-eqb, ne-eqb}
 use Rattle.stored.specs.Values.{hasVariable}
-use Rattle.stored.proofs.Lists.{left, none-left, first-left}
+use Rattle.stored.proofs.Lists.{left, none-left}
 use Rattle.stored.proofs.values.has_variable.Statement.{statement}
 use Rattle.stored.proofs.values.has_variable.Tie as tie
 
 abbrev Inv-loop : tie.InvT-loop
-Inv-loop bytes i₀ i = (i ≤ length bytes) × (hasVariable (drop i bytes) ≡ hasVariable bytes)
+Inv-loop bytes found₀ dollar₀ i₀ found dollar i =
+    (i ≤ length bytes) × ((found || ((dollar && eqb (getD (drop i bytes) 0 0) 0x7B) || hasVariable (drop i bytes))) ≡ hasVariable bytes)
 
 abbrev μ-loop : tie.MeasureT-loop
-μ-loop bytes i₀ i = length bytes - i
-
--- by which arm control came to the end of a turn
-by-arm : {A B C : Type 0} → A ⊎ B → (A → C) → (B → C) → C
-by-arm (inl a) f g = f a
-by-arm (inr b) f g = g b
+μ-loop bytes found₀ dollar₀ i₀ found dollar i = length bytes - i
 
 loop-holds : tie.Need-loop-holds Inv-loop μ-loop
 loop-holds c = search needs
 
-shared-slice-read-if1 : tie.Need-shared-slice-read-if1 Inv-loop μ-loop
-shared-slice-read-if1 c = search needs
-
-add-byte-at : tie.Need-add-byte-at Inv-loop μ-loop
-add-byte-at c = search needs
-
-byte-at-requires : tie.Need-byte-at-requires Inv-loop μ-loop
-byte-at-requires c κs = search needs
-
-returns : tie.Need-returns Inv-loop μ-loop
-returns c =
-    rw (
-      ← c .before .before .before .before .before .loop .inv .1,
-      left {A = ℕ} _ _ 0 (c .before .before .before .before .loop-test .taken),
-      eq-eqb _ _ (c .before .before .if1 .taken),
-      first-left,
-      eq-eqb _ _ (sym (c .before .byte-at .ensures) ∙ c .if2 .taken),
-    )
+shared-slice-read-byte : tie.Need-shared-slice-read-byte Inv-loop μ-loop
+shared-slice-read-byte c = search needs
 
 add-i : tie.Need-add-i Inv-loop μ-loop
 add-i c = search needs
@@ -50,41 +31,30 @@ loop-less : tie.Need-loop-less Inv-loop μ-loop
 loop-less c = search needs
 
 loop-again : tie.Need-loop-again Inv-loop μ-loop
-loop-again c = (
-  search needs,
-  by-arm
-      (c .if1 .came)
-      (λ w.
-      rw (
-        ← c .before .before .before .loop .inv .1,
-        left {A = ℕ} _ _ 0 (c .before .before .loop-test .taken),
-        eq-eqb _ _ (w .0 .taken),
-        first-left,
-        ne-eqb _ _ (λ e. w .2 .left (w .1 .ensures ∙ e)),
-      ))
-      (λ w.
-      rw (
-        ← c .before .before .before .loop .inv .1,
-        left {A = ℕ} _ _ 0 (c .before .before .loop-test .taken),
-        ne-eqb _ _ (w .left),
-      )),
-)
+loop-again c =
+    let l = c .before .before .loop in
+    let bytes = c .before .before .before .args .bytes .now in
+    let rest = drop (l .i + 1) bytes in (
+      search needs,
+      or-assoc (l .found) (l .dollar && eqb (getD bytes (l .i) 0) 0x7B) (hasVariable (getD bytes (l .i) 0 ∷ rest))
+          ∙ ap (λ (bs : List ℕ). l .found || ((l .dollar && eqb (getD bs 0 0) 0x7B) || hasVariable bs)) (sym (left bytes (l .i) 0 (c .before .loop-test .taken)))
+          ∙ l .inv .1,
+    )
 
-returns-2 : tie.Need-returns-2 Inv-loop μ-loop
-returns-2 c = rw (← c .before .loop .inv .1, none-left _ _ (c .loop-test .left))
+nothing-left : (found dollar : Bool) → found ≡ (found || ((dollar && false) || false))
+nothing-left true dollar = refl
+nothing-left false true = refl
+nothing-left false false = refl
+
+returns : tie.Need-returns Inv-loop μ-loop
+returns c =
+    let l = c .before .loop in
+    let bytes = c .before .before .args .bytes .now in
+    nothing-left (l .found) (l .dollar)
+    ∙ ap (λ (bs : List ℕ). l .found || ((l .dollar && eqb (getD bs 0 0) 0x7B) || hasVariable bs)) (sym (none-left bytes (l .i) (c .loop-test .left)))
+    ∙ l .inv .1
 
 pub has-variable-spec : {M : Type 1} → statement M
 has-variable-spec =
     tie.close
-    (tie.spec
-    Inv-loop
-    μ-loop
-    loop-holds
-    shared-slice-read-if1
-    add-byte-at
-    byte-at-requires
-    returns
-    add-i
-    loop-less
-    loop-again
-    returns-2)
+    (tie.spec Inv-loop μ-loop loop-holds shared-slice-read-byte add-i loop-less loop-again returns)

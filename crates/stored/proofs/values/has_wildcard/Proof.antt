@@ -1,42 +1,30 @@
--- No byte before the index is a wildcard, so the bytes from it on decide: that is the invariant.
-use Prim.Native.Nat.{ℕ, _≤_, _-_}
-use mathlib.Core.Path.{_≡_}
+-- The invariant: a wildcard was found, or stands in the bytes from the index on.
+use Prim.Native.Nat.{ℕ, _+_, _-_, _≤_}
+use mathlib.Core.Path.{_≡_, sym, ap, _∙_}
+use mathlib.Core.Bool.{Bool, _||_, or-assoc, or-false}
+use mathlib.Core.List.{List}
 use lib.ListN.{length, drop}
-use borrow.Author.Needs.{needs}
-use borrow.Author.Tests.{eq-eqb, ne-eqb}
 use Rattle.stored.specs.Values.{hasWildcard}
 use Rattle.stored.proofs.Lists.{left, none-left}
+use borrow.Author.Needs.{needs}
 use Rattle.stored.proofs.values.has_wildcard.Statement.{statement}
 use Rattle.stored.proofs.values.has_wildcard.Tie as tie
 
 abbrev Inv-loop : tie.InvT-loop
-Inv-loop bytes i₀ i = (i ≤ length bytes) × (hasWildcard (drop i bytes) ≡ hasWildcard bytes)
+Inv-loop bytes found₀ i₀ found i =
+    (i ≤ length bytes) × ((found || hasWildcard (drop i bytes)) ≡ hasWildcard bytes)
 
 abbrev μ-loop : tie.MeasureT-loop
-μ-loop bytes i₀ i = length bytes - i
+μ-loop bytes found₀ i₀ found i = length bytes - i
 
 loop-holds : tie.Need-loop-holds Inv-loop μ-loop
 loop-holds c = search needs
 
-shared-slice-read-byte : tie.Need-shared-slice-read-byte Inv-loop μ-loop
-shared-slice-read-byte c = search needs
+shared-slice-read-is-wildcard : tie.Need-shared-slice-read-is-wildcard Inv-loop μ-loop
+shared-slice-read-is-wildcard c = search needs
 
-returns : tie.Need-returns Inv-loop μ-loop
-returns c =
-    rw (
-      ← c .before .before .before .loop .inv .1,
-      left {A = ℕ} _ _ 0 (c .before .before .loop-test .taken),
-      eq-eqb _ _ (c .if1 .taken),
-    )
-
-returns-2 : tie.Need-returns-2 Inv-loop μ-loop
-returns-2 c =
-    rw (
-      ← c .before .before .before .before .loop .inv .1,
-      left {A = ℕ} _ _ 0 (c .before .before .before .loop-test .taken),
-      ne-eqb _ _ (c .before .if1 .left),
-      eq-eqb _ _ (c .if2 .taken),
-    )
+is-wildcard-requires : tie.Need-is-wildcard-requires Inv-loop μ-loop
+is-wildcard-requires c κs = search needs
 
 add-i : tie.Need-add-i Inv-loop μ-loop
 add-i c = search needs
@@ -45,18 +33,21 @@ loop-less : tie.Need-loop-less Inv-loop μ-loop
 loop-less c = search needs
 
 loop-again : tie.Need-loop-again Inv-loop μ-loop
-loop-again c = (
-  search needs,
-  rw (
-    ← c .before .before .before .before .loop .inv .1,
-    left {A = ℕ} _ _ 0 (c .before .before .before .loop-test .taken),
-    ne-eqb _ _ (c .before .if1 .left),
-    ne-eqb _ _ (c .if2 .left),
-  ),
-)
+loop-again c =
+    let l = c .before .before .before .loop in
+    let bytes = c .before .before .before .before .before .args .bytes .now in (
+      search needs,
+      or-assoc (l .found) (c .is-wildcard .result) (hasWildcard (drop (l .i + 1) bytes))
+          ∙ ap (λ (t : Bool). l .found || (t || hasWildcard (drop (l .i + 1) bytes))) (c .is-wildcard .ensures)
+          ∙ ap (λ (bs : List ℕ). l .found || hasWildcard bs) (sym (left bytes (l .i) 0 (c .before .before .loop-test .taken)))
+          ∙ l .inv .1,
+    )
 
-returns-3 : tie.Need-returns-3 Inv-loop μ-loop
-returns-3 c = rw (← c .before .loop .inv .1, none-left _ _ (c .loop-test .left))
+returns : tie.Need-returns Inv-loop μ-loop
+returns c =
+    let l = c .before .loop in
+    let bytes = c .before .before .before .args .bytes .now in
+    sym (or-false (l .found)) ∙ ap (λ (bs : List ℕ). l .found || hasWildcard bs) (sym (none-left bytes (l .i) (c .loop-test .left))) ∙ l .inv .1
 
 pub has-wildcard-spec : {M : Type 1} → statement M
 has-wildcard-spec =
@@ -65,10 +56,9 @@ has-wildcard-spec =
     Inv-loop
     μ-loop
     loop-holds
-    shared-slice-read-byte
-    returns
-    returns-2
+    shared-slice-read-is-wildcard
+    is-wildcard-requires
     add-i
     loop-less
     loop-again
-    returns-3)
+    returns)

@@ -1,42 +1,30 @@
--- The bytes before the index lie in range, so the bytes from it on decide: that is the invariant.
-use Prim.Native.Nat.{ℕ, _≤_, _-_}
-use mathlib.Core.Path.{_≡_}
+-- The invariant: the bytes before the index lie in range, and so do those from it on.
+use Prim.Native.Nat.{ℕ, _+_, _-_, _≤_}
+use mathlib.Core.Path.{_≡_, sym, ap, _∙_}
+use mathlib.Core.Bool.{Bool, _&&_, and-assoc, and-true}
+use mathlib.Core.List.{List}
 use lib.ListN.{length, drop}
-use borrow.Author.Needs.{needs}
-use borrow.Author.Tests.{le-leb, lt-leb}
 use Rattle.stored.specs.Values.{inRange}
 use Rattle.stored.proofs.Lists.{left, none-left}
+use borrow.Author.Needs.{needs}
 use Rattle.stored.proofs.values.is_in_range.Statement.{statement}
 use Rattle.stored.proofs.values.is_in_range.Tie as tie
 
 abbrev Inv-loop : tie.InvT-loop
-Inv-loop bytes i₀ i = (i ≤ length bytes) × (inRange (drop i bytes) ≡ inRange bytes)
+Inv-loop bytes every₀ i₀ every i =
+    (i ≤ length bytes) × ((every && inRange (drop i bytes)) ≡ inRange bytes)
 
 abbrev μ-loop : tie.MeasureT-loop
-μ-loop bytes i₀ i = length bytes - i
+μ-loop bytes every₀ i₀ every i = length bytes - i
 
 loop-holds : tie.Need-loop-holds Inv-loop μ-loop
 loop-holds c = search needs
 
-shared-slice-read-byte : tie.Need-shared-slice-read-byte Inv-loop μ-loop
-shared-slice-read-byte c = search needs
+shared-slice-read-is-byte-in-range : tie.Need-shared-slice-read-is-byte-in-range Inv-loop μ-loop
+shared-slice-read-is-byte-in-range c = search needs
 
-returns : tie.Need-returns Inv-loop μ-loop
-returns c =
-    rw (
-      ← c .before .before .before .loop .inv .1,
-      left {A = ℕ} _ _ 0 (c .before .before .loop-test .taken),
-      lt-leb _ _ (c .if1 .taken),
-    )
-
-returns-2 : tie.Need-returns-2 Inv-loop μ-loop
-returns-2 c =
-    rw (
-      ← c .before .before .before .before .loop .inv .1,
-      left {A = ℕ} _ _ 0 (c .before .before .before .loop-test .taken),
-      le-leb _ _ (c .before .if1 .left),
-      lt-leb _ _ (c .if2 .taken),
-    )
+is-byte-in-range-requires : tie.Need-is-byte-in-range-requires Inv-loop μ-loop
+is-byte-in-range-requires c κs = search needs
 
 add-i : tie.Need-add-i Inv-loop μ-loop
 add-i c = search needs
@@ -45,18 +33,21 @@ loop-less : tie.Need-loop-less Inv-loop μ-loop
 loop-less c = search needs
 
 loop-again : tie.Need-loop-again Inv-loop μ-loop
-loop-again c = (
-  search needs,
-  rw (
-    ← c .before .before .before .before .loop .inv .1,
-    left {A = ℕ} _ _ 0 (c .before .before .before .loop-test .taken),
-    le-leb _ _ (c .before .if1 .left),
-    le-leb _ _ (c .if2 .left),
-  ),
-)
+loop-again c =
+    let l = c .before .before .before .loop in
+    let bytes = c .before .before .before .before .before .args .bytes .now in (
+      search needs,
+      and-assoc (l .every) (c .is-byte-in-range .result) (inRange (drop (l .i + 1) bytes))
+          ∙ ap (λ (t : Bool). l .every && (t && inRange (drop (l .i + 1) bytes))) (c .is-byte-in-range .ensures)
+          ∙ ap (λ (bs : List ℕ). l .every && inRange bs) (sym (left bytes (l .i) 0 (c .before .before .loop-test .taken)))
+          ∙ l .inv .1,
+    )
 
-returns-3 : tie.Need-returns-3 Inv-loop μ-loop
-returns-3 c = rw (← c .before .loop .inv .1, none-left _ _ (c .loop-test .left))
+returns : tie.Need-returns Inv-loop μ-loop
+returns c =
+    let l = c .before .loop in
+    let bytes = c .before .before .before .args .bytes .now in
+    sym (and-true (l .every)) ∙ ap (λ (bs : List ℕ). l .every && inRange bs) (sym (none-left bytes (l .i) (c .loop-test .left))) ∙ l .inv .1
 
 pub is-in-range-spec : {M : Type 1} → statement M
 is-in-range-spec =
@@ -65,10 +56,9 @@ is-in-range-spec =
     Inv-loop
     μ-loop
     loop-holds
-    shared-slice-read-byte
-    returns
-    returns-2
+    shared-slice-read-is-byte-in-range
+    is-byte-in-range-requires
     add-i
     loop-less
     loop-again
-    returns-3)
+    returns)
