@@ -76,31 +76,41 @@ module _ (table : List ℕ) (c : Cursor) where
       by true e false f = inr (inr (ltb-false _ _ f))
       by false e u f = inr (inl (ltb-false _ _ e))
 
-  -- a symbol that is found is the first of those that are left
-  pub next-more : (code : ℕ) (more : Cursor) → nextOf table c ≡ N.Symbol code more → codesLeft table c ≡ code ∷ codesLeft table more
-  next-more code more e = by inside-or-not
+  -- where a symbol is found, and which
+  pub next-found : (code : ℕ) (more : Cursor) → nextOf table c ≡ N.Symbol code more
+      → (c .at < c .end) × (c .at < length table) × (symbolCode (c .fold) (symbolOf (c .wild) (getD table (c .at) 0)) ≡ code) × (behind c ≡ more)
+  next-found code more e = by inside-or-not
     where
-      by : ((c .at < c .end) × (c .at < length table)) ⊎ ((c .end ≤ c .at) ⊎ (length table ≤ c .at)) → codesLeft table c ≡ code ∷ codesLeft table more
+      by : ((c .at < c .end) × (c .at < length table)) ⊎ ((c .end ≤ c .at) ⊎ (length table ≤ c .at))
+          → (c .at < c .end) × (c .at < length table) × (symbolCode (c .fold) (symbolOf (c .wild) (getD table (c .at) 0)) ≡ code) × (behind c ≡ more)
       by (inl h) =
           let found = next-inside (h .0) (h .1) in
-          let same : symbolCode (c .fold) (symbolOf (c .wild) (getD table (c .at) 0)) ≡ code = cc in
-          let on : behind c ≡ more = cc in
-          codes-more table c (h .0) (h .1) ∙ ap₂ (λ (n : ℕ) (d : Cursor). n ∷ codesLeft table d) same on
+          (h .0, h .1, (cc), (cc))
       by (inr h) =
           let none = next-outside h in
           let z : _≡_ {A = ℕ} 0 1 = cc in
           absurd (apart z)
 
-  -- at the end none is left
-  pub next-done : nextOf table c ≡ N.Done → codesLeft table c ≡ []
-  next-done e = by inside-or-not
+  -- where none is
+  pub next-none : nextOf table c ≡ N.Done → (c .end ≤ c .at) ⊎ (length table ≤ c .at)
+  next-none e = by inside-or-not
     where
-      by : ((c .at < c .end) × (c .at < length table)) ⊎ ((c .end ≤ c .at) ⊎ (length table ≤ c .at)) → codesLeft table c ≡ []
+      by : ((c .at < c .end) × (c .at < length table)) ⊎ ((c .end ≤ c .at) ⊎ (length table ≤ c .at)) → (c .end ≤ c .at) ⊎ (length table ≤ c .at)
       by (inl h) =
           let found = next-inside (h .0) (h .1) in
           let z : _≡_ {A = ℕ} 0 1 = cc in
           absurd (apart z)
-      by (inr h) = codes-done table c h
+      by (inr h) = h
+
+  -- a symbol that is found is the first of those that are left
+  pub next-more : (code : ℕ) (more : Cursor) → nextOf table c ≡ N.Symbol code more → codesLeft table c ≡ code ∷ codesLeft table more
+  next-more code more e =
+      let found = next-found code more e in
+      codes-more table c (found .0) (found .1) ∙ ap₂ (λ (n : ℕ) (d : Cursor). n ∷ codesLeft table d) (found .2) (found .3)
+
+  -- at the end none is left
+  pub next-done : nextOf table c ≡ N.Done → codesLeft table c ≡ []
+  next-done e = codes-done table c (next-none e)
 
 -- no more symbols are left than the table has bytes
 pub left-fits : (table : List ℕ) (c : Cursor) → length (codesLeft table c) ≤ length table
@@ -119,13 +129,18 @@ take-min n l = by (leb n (length l)) refl
         let h : length l < n = leb-false n (length l) e in
         ap (λ (m : ℕ). take m l) (min-eq-right {n = length l} {m = n} (omega arith)) ∙ take-all (length l) l (omega arith) ∙ sym (take-all n l (omega arith))
 
--- an opened cursor has all symbols of the value before it
+-- an opened cursor has all bytes of the value before it
+pub opened-part : (table : List ℕ) (start size : ℕ) → take (start + sizeFrom table start size - start) (drop start table) ≡ take size (drop start table)
+opened-part table start size =
+    ap (λ (n : ℕ). take n (drop start table)) {x = start + sizeFrom table start size - start} {y = sizeFrom table start size} (omega arith)
+    ∙ ap (λ (n : ℕ). take (min size n) (drop start table)) (sym (length-drop start table))
+    ∙ take-min size (drop start table)
+
+-- and so all its symbols
 pub opened : (table : List ℕ) (start size : ℕ) (reading : Reading) → codesLeft table (openOf table start size reading) ≡ symbolCodes reading (take size (drop start table))
 unfolding codesLeft openOf
 opened table start size reading =
-    ap (λ (n : ℕ). map code (take n (drop start table))) {x = start + sizeFrom table start size - start} {y = sizeFrom table start size} (omega arith)
-    ∙ ap (λ (n : ℕ). map code (take (min size n) (drop start table))) (sym (length-drop start table))
-    ∙ ap (map code) (take-min size (drop start table))
+    ap (map code) (opened-part table start size)
     ∙ sym (map-map (symbolCode (ignoresCase reading)) (symbolOf (isWild reading (take size (drop start table)))) (take size (drop start table)))
   where
     code : ℕ → ℕ

@@ -6,7 +6,9 @@ pub mod Columns
 pub mod Cursors
 pub mod Networks
 pub mod ByWords
+pub mod MarkedRows
+mod SymbolsLeft
 mod Parts
 mod Sweeps
-mod MarkedRows
 mod WordBits
+mod AlikeBytes

@@ -71,7 +71,7 @@ lay-more (suc n) (suc i) f h =
         side q (inr g) = upto-past m (64 + q) f (omega arith) ∙ sym (upto-past l q (λ q. f (64 + q)) g)
 
 -- bit k of word i of a row
-row-at : (row : List ℕ) (i k : ℕ) → k < 64 → wordBit (getD row i 0) k ≡ rowBit row (64 * i + k)
+pub row-at : (row : List ℕ) (i k : ℕ) → k < 64 → wordBit (getD row i 0) k ≡ rowBit row (64 * i + k)
 unfolding rowBit
 row-at row i k h = ap₂ (λ (j l : ℕ). wordBit (getD row j 0) l) {x = i} {y = (64 * i + k) / 64} {u = k} {v = (64 * i + k) % 64} (omega arith) (omega arith)
 

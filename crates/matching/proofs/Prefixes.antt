@@ -34,7 +34,7 @@ not-empty : (s : List ℕ) (b : ℕ) → isEmpty (s ++ (b ∷ [])) ≡ false
 not-empty [] b = refl
 not-empty (a ∷ s) b = refl
 
-some-end-empty : (s : List ℕ) → someEnd isEmpty s ≡ true
+pub some-end-empty : (s : List ℕ) → someEnd isEmpty s ≡ true
 some-end-empty [] = refl
 some-end-empty (a ∷ s) = some-end-empty s
 

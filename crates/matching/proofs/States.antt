@@ -13,7 +13,7 @@ use borrow.Author.Tests.{eq-eqb, ne-eqb, eqb-true, eqb-false}
 use Rattle.matching.specs.declared.reading.Reading.{Reading}
 use Rattle.matching.specs.Symbols.{Symbol, star, one, byte, symbols, foldByte, ignoresCase, sameByte, compareOf, pick}
 use Rattle.matching.specs.Matches.{symbolFirst, symbolStep, matches, valueMatches, prefixMatches}
-use Rattle.matching.specs.Codes.{byteCode, symbolCode, symbolCodes, valueCodes, codesOf, takesByte}
+use Rattle.matching.specs.Codes.{byteCode, symbolCode, valueCodes, codesOf, takesByte}
 use Rattle.matching.specs.Rows.{positions, cellStep, cellBit, firstBit, stepBit, rowBit, firstRow, stepRow, rowAfter, rowOf, forward, rowBackward}
 use Rattle.matching.proofs.Prefixes.{prefix-first-start, prefix-step-start, prefix-first, prefix-step}
 use Rattle.matching.proofs.Rows.{row-bit}
@@ -27,7 +27,7 @@ same-test a b c d there back = by (eqb c d) refl
     by true e = eq-eqb a b (back (eqb-true c d e)) ∙ sym e
     by false e = ne-eqb a b (λ w. eqb-false c d e (there w)) ∙ sym e
 
-takes : (fold : Bool) (c b : ℕ) → takesByte (byteCode fold c) b ≡ sameByte fold c b
+pub takes : (fold : Bool) (c b : ℕ) → takesByte (byteCode fold c) b ≡ sameByte fold c b
 takes false c b =
     ap₂ _||_ (same-test (c * 2 + 4) (b * 2 + 4) c b (λ w. omega arith) (λ w. omega arith)) (ne-eqb (c * 2 + 4) (foldByte b * 2 + 5) (λ w. omega arith))
     ∙ or-false (eqb c b)
@@ -35,7 +35,7 @@ takes true c b =
     ap₂ _||_ (ne-eqb (foldByte c * 2 + 5) (b * 2 + 4) (λ w. omega arith))
     (same-test (foldByte c * 2 + 5) (foldByte b * 2 + 5) (foldByte c) (foldByte b) (λ w. omega arith) (λ w. omega arith))
 
-large : (fold : Bool) (c : ℕ) → 4 ≤ byteCode fold c
+pub large : (fold : Bool) (c : ℕ) → 4 ≤ byteCode fold c
 large true c = omega arith
 large false c = omega arith
 
@@ -190,12 +190,15 @@ last-position-decides reading value front back few s =
     state-means-forward reading value front back few s (length (symbols reading value)) (omega arith)
     ∙ ap (λ (p : List Symbol). matches (compareOf reading) p s) (take-length (symbols reading value))
 
--- a value that stands alone
-pub value-decides : (reading : Reading) (value : List ℕ) → length (valueCodes reading value) ≤ positions
-    → (s : List ℕ) → rowBit (rowOf (valueCodes reading value) s) (length (symbolCodes reading value)) ≡ valueMatches reading value s
-value-decides reading value few s =
-    ap₂ (λ (codes : List ℕ) (p : ℕ). rowBit (rowOf codes s) p) {x = valueCodes reading value} {y = valueCodes reading value ++ []}
-    {u = length (symbolCodes reading value)} {v = 0 + length (symbols reading value)}
-    (sym (append-nil (valueCodes reading value)))
-    (length-map (symbols reading value) (symbolCode (ignoresCase reading)) ∙ sym (zero-add (length (symbols reading value))))
-    ∙ last-position-decides reading value [] [] (subst (λ (codes : List ℕ). length codes ≤ positions) (sym (append-nil (valueCodes reading value))) few) s
+-- symbols that stand alone: their last position is reached by exactly the strings that they match
+pub symbols-decide : (fold : Bool) (p : List Symbol) → length p < positions
+    → (s : List ℕ) → rowBit (rowOf (1 ∷ map (symbolCode fold) p) s) (length (map (symbolCode fold) p)) ≡ matches (sameByte fold) p s
+unfolding prefixMatches
+symbols-decide fold p few s =
+    ap₂ (λ (codes : List ℕ) (n : ℕ). rowBit (rowOf codes s) n) {x = 1 ∷ map (symbolCode fold) p} {y = column fold [] p []}
+    {u = length (map (symbolCode fold) p)} {v = 0 + length p}
+    (sym (append-nil (1 ∷ map (symbolCode fold) p)))
+    (length-map p (symbolCode fold) ∙ sym (zero-add (length p)))
+    ∙ ap (λ (row : List ℕ). rowBit row (0 + length p)) (backward s .2 (column fold [] p []))
+    ∙ state-bits fold [] p [] (omega arith) (backward s .0) (length p) (omega arith)
+    ∙ ap₂ (λ (q : List Symbol) (string : List ℕ). matches (sameByte fold) q string) (take-length p) (backward s .1)

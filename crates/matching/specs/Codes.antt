@@ -46,3 +46,7 @@ codesOf (v ∷ vs) = valueCodes (v .0) (v .1) ++ codesOf vs
 -- whether the byte b leads to a position behind a byte
 abbrev pub takesByte : ℕ → ℕ → Bool
 takesByte code b = eqb code (byteCode false b) || eqb code (byteCode true b)
+
+-- whether it leads to a position behind a symbol that is no star
+abbrev pub takesSymbol : ℕ → ℕ → Bool
+takesSymbol code b = eqb code oneCode || takesByte code b

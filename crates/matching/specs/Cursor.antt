@@ -1,4 +1,5 @@
 -- Reading the symbols of a value out of a table by a cursor.
+use mathlib.Core.Bool.{Bool}
 use mathlib.Core.List.{List, map}
 use Prim.Native.Nat.{ℕ, _+_, _-_, min}
 use lib.ListN.{length, getD, take, drop}
@@ -7,7 +8,8 @@ use Rattle.matching.specs.declared.reading.Reading.{Reading}
 use Rattle.matching.specs.declared.symbols.Cursor.{Cursor}
 use Rattle.matching.specs.declared.symbols.Next.{Next}
 use Rattle.matching.specs.declared.symbols.Next.the-variants as N
-use Rattle.matching.specs.Symbols.{pick, symbolOf, isWild, ignoresCase}
+use Rattle.matching.specs.Symbols.{Symbol, pick, symbolOf, isWild, ignoresCase, sameByte}
+use Rattle.matching.specs.Matches.{matches}
 use Rattle.matching.specs.Codes.{symbolCode}
 
 -- how many of the bytes asked for, from a place on, are in the table
@@ -38,3 +40,11 @@ nextOf table c =
 -- the codes behind all symbols from the cursor on
 unfoldable pub codesLeft : List ℕ → Cursor → List ℕ
 codesLeft table c = map (λ b. symbolCode (c .fold) (symbolOf (c .wild) b)) (take (c .end - c .at) (drop (c .at) table))
+
+-- all symbols from the cursor on
+unfoldable pub symbolsLeft : List ℕ → Cursor → List Symbol
+symbolsLeft table c = map (symbolOf (c .wild)) (take (c .end - c .at) (drop (c .at) table))
+
+-- they match the whole string
+unfoldable pub leftMatches : List ℕ → Cursor → List ℕ → Bool
+leftMatches table c string = matches (sameByte (c .fold)) (symbolsLeft table c) string

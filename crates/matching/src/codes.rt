@@ -1,14 +1,14 @@
 // The codes of positions: what the step to a position asks of a byte.
 ghost use mathlib.Core.Path.{_≡_};
 ghost use Rattle.matching.specs.Symbols.{foldByte, symbolOf};
-ghost use Rattle.matching.specs.Codes.{byteCode, symbolCode, takesByte};
+ghost use Rattle.matching.specs.Codes.{byteCode, symbolCode, takesByte, takesSymbol};
 
 // The code of the start of a value.
 pub const START: u64 = 1;
 
 pub(crate) const BEHIND_STAR: u64 = 2;
 
-pub(crate) const BEHIND_ONE: u64 = 3;
+pub const BEHIND_ONE: u64 = 3;
 
 pub(crate) const STAR: u8 = b'*';
 
@@ -64,4 +64,14 @@ pub(crate) fn takes_byte(code: u64, b: u8) -> bool
         return true;
     }
     code == folded
+}
+
+// Whether the byte b leads to a position behind a symbol that is no star.
+pub(crate) fn takes_symbol(code: u64, b: u8) -> bool
+    ensures { λ r. ⌜ r ≡ takesSymbol code b ⌝ }
+{
+    if code == BEHIND_ONE {
+        return true;
+    }
+    takes_byte(code, b)
 }

@@ -5,7 +5,7 @@ use crate::codes::START;
 use crate::codes::takes_byte;
 ghost use mathlib.Core.Path.{_≡_};
 ghost use Prim.Native.Nat.{_<_};
-ghost use Rattle.matching.specs.Rows.{positions, rowBit, markRow, cellStep, firstRow, stepRow, cellRow};
+ghost use Rattle.matching.specs.Rows.{positions, rowBit, markRow, cellStep, firstRow, cellRow};
 
 // The number of positions of a row.
 pub(crate) const POSITIONS: usize = 512;
@@ -37,6 +37,19 @@ pub(crate) fn mark(row: [u64; 8], p: usize, reached: bool) -> [u64; 8]
         return marked;
     }
     row
+}
+
+// Marks position p in the row, or leaves the row as it is.
+pub(crate) fn mark_in(row: &mut [u64; 8], p: usize, reached: bool)
+    requires { ⌜ p < positions ⌝ }
+    ensures { λ r. ⌜ now (row .exit) ≡ markRow (now (row .entry)) p reached ⌝ }
+{
+    if reached {
+        let i = p / 64;
+        let k = p % 64;
+        let word = row[i];
+        row[i] = word | (1u64 << k);
+    }
 }
 
 // Whether a string reaches the position with this code. begins: the string is empty, else b is its last byte. new: it reaches the
@@ -88,11 +101,4 @@ pub fn first_state(codes: &[u64]) -> [u64; 8]
     ensures { λ r. ⌜ r ≡ firstRow (now (codes .entry)) ⌝ }
 {
     row_of_codes(codes, true, 0, [0u64; 8])
-}
-
-// The row of a string that ends in b, from the row of the string without it.
-pub fn next_state(codes: &[u64], b: u8, row: [u64; 8]) -> [u64; 8]
-    ensures { λ r. ⌜ r ≡ stepRow (now (codes .entry)) b row ⌝ }
-{
-    row_of_codes(codes, false, b, row)
 }

@@ -1,9 +1,12 @@
 // One value against one string.
+use crate::codes::BEHIND_STAR;
 use crate::codes::START;
+use crate::codes::takes_symbol;
 use crate::reading::Reading;
 use crate::state::cell_step;
 use crate::state::has_position;
 use crate::state::mark;
+use crate::state::mark_in;
 use crate::symbols::Cursor;
 use crate::symbols::Next;
 use crate::symbols::next_symbol;
@@ -13,7 +16,8 @@ ghost use mathlib.Core.List.{_∷_};
 ghost use Prim.Native.Nat.{_<_, _≤_};
 ghost use lib.ListN.{length, take, drop};
 ghost use Rattle.matching.specs.Matches.{valueMatches};
-ghost use Rattle.matching.specs.Cursor.{codesLeft};
+ghost use Rattle.matching.specs.Codes.{starCode};
+ghost use Rattle.matching.specs.Cursor.{nextOf, codesLeft, leftMatches};
 ghost use Rattle.matching.specs.Rows.{positions, cellRow};
 
 // The number of symbols from the cursor on.
@@ -48,10 +52,12 @@ fn row_of_value(table: &[u8], first: Cursor, begins: bool, b: u8, row: [u64; 8])
     loop {
         match next_symbol(table, cursor) {
             Next::Symbol(code, behind) => {
-                let here = has_position(row, p);
+                let i = p / 64;
+                let k = p % 64;
+                let word = row[i];
+                let here = (word >> k) % 2 == 1;
                 let reached = cell_step(begins, b, code, new, before, here);
-                let marked = mark(next, p, reached);
-                next = marked;
+                mark_in(&mut next, p, reached);
                 new = reached;
                 before = here;
                 cursor = behind;
@@ -59,6 +65,65 @@ fn row_of_value(table: &[u8], first: Cursor, begins: bool, b: u8, row: [u64; 8])
             }
             Next::Done => {
                 return next;
+            }
+        }
+    }
+}
+
+// Whether the symbols from the cursor on match the whole string, by the row that the string reaches.
+fn rows_match(table: &[u8], cursor: Cursor, string: &[u8]) -> bool
+    requires { ⌜ length (codesLeft (now table) cursor) < positions ⌝ }
+    ensures { λ r. ⌜ r ≡ leftMatches (now (table .entry)) cursor (now (string .entry)) ⌝ }
+{
+    let mut row = row_of_value(table, cursor, true, 0, [0u64; 8]);
+    let mut i: usize = 0;
+    while i < string.len() {
+        let b = string[i];
+        let next = row_of_value(table, cursor, false, b, row);
+        row = next;
+        i += 1;
+    }
+    let last = count_symbols(table, cursor);
+    has_position(row, last)
+}
+
+// The same where the next symbol is a star, with the cursor behind it: a last star takes any string.
+fn star_matches(table: &[u8], cursor: Cursor, behind: Cursor, string: &[u8]) -> bool
+    requires { ⌜ (length (codesLeft (now table) cursor) < positions) × (nextOf (now table) cursor ≡ Next.Symbol starCode behind) ⌝ }
+    ensures { λ r. ⌜ r ≡ leftMatches (now (table .entry)) cursor (now (string .entry)) ⌝ }
+{
+    match next_symbol(table, behind) {
+        Next::Symbol(_, _) => rows_match(table, cursor, string),
+        Next::Done => true,
+    }
+}
+
+// Whether the symbols from the cursor on match the whole string. Up to the first star each symbol takes one byte, so that the first
+// byte that differs decides.
+fn left_matches(table: &[u8], first: Cursor, string: &[u8]) -> bool
+    requires { ⌜ length (codesLeft (now table) first) < positions ⌝ }
+    ensures { λ r. ⌜ r ≡ leftMatches (now (table .entry)) first (now (string .entry)) ⌝ }
+{
+    let mut cursor = first;
+    let mut i: usize = 0;
+    loop {
+        match next_symbol(table, cursor) {
+            Next::Symbol(code, behind) => {
+                if code == BEHIND_STAR {
+                    return star_matches(table, cursor, behind, &string[i..]);
+                }
+                if string.len() <= i {
+                    return false;
+                }
+                if takes_symbol(code, string[i]) {
+                    cursor = behind;
+                    i += 1;
+                } else {
+                    return false;
+                }
+            }
+            Next::Done => {
+                return string.len() <= i;
             }
         }
     }
@@ -76,14 +141,5 @@ pub fn value_matches(
     ensures { λ r. ⌜ r ≡ valueMatches reading (take length (drop start (now (table .entry)))) (now (string .entry)) ⌝ }
 {
     let cursor = open_value(table, start, length, reading);
-    let mut row = row_of_value(table, cursor, true, 0, [0u64; 8]);
-    let mut i: usize = 0;
-    while i < string.len() {
-        let b = string[i];
-        let next = row_of_value(table, cursor, false, b, row);
-        row = next;
-        i += 1;
-    }
-    let last = count_symbols(table, cursor);
-    has_position(row, last)
+    left_matches(table, cursor, string)
 }

@@ -1,42 +1,13 @@
-// The step of a state by words: which positions a byte leads to, which stand behind a star, and 64 positions at once.
-use crate::codes::BEHIND_ONE;
+// The step of a state by words: which positions stand behind a star, and 64 positions at once.
 use crate::codes::BEHIND_STAR;
-use crate::codes::takes_byte;
 use crate::state::POSITIONS;
 use crate::state::mark;
 ghost use mathlib.Core.Path.{_≡_};
-ghost use mathlib.Core.Bool.{_||_};
+ghost use mathlib.Core.Bool.{true};
 ghost use Prim.Native.Nat.{_≤_};
-ghost use lib.Dec.{eqb};
 ghost use lib.ListN.{length};
-ghost use Rattle.matching.specs.Codes.{oneCode, takesByte};
 ghost use Rattle.matching.specs.Rows.{wordBit, packWord};
-ghost use Rattle.matching.specs.Words.{takenRow, starRow, wordsRow, movedUp, baseBit, overBit};
-
-// Whether the byte b leads to the position with this code from the one in front.
-pub fn takes(code: u64, b: u8) -> bool
-    ensures { λ r. ⌜ r ≡ (eqb code oneCode || takesByte code b) ⌝ }
-{
-    if code == BEHIND_ONE {
-        return true;
-    }
-    takes_byte(code, b)
-}
-
-// The positions to which the byte b leads from the one in front.
-pub fn taken_by(codes: &[u64], b: u8) -> [u64; 8]
-    ensures { λ r. ⌜ r ≡ takenRow (now (codes .entry)) b ⌝ }
-{
-    let mut row = [0u64; 8];
-    let mut p: usize = 0;
-    while p < POSITIONS && p < codes.len() {
-        let taken = takes(codes[p], b);
-        let marked = mark(row, p, taken);
-        row = marked;
-        p += 1;
-    }
-    row
-}
+ghost use Rattle.matching.specs.Words.{starRow, wordsRow, movedUp, baseBit, overBit, LeadsAlike, AgreeIn};
 
 // The positions behind a star.
 pub fn stars_of(codes: &[u64]) -> [u64; 8]
@@ -99,4 +70,32 @@ pub fn step_words(taken: &[u64], stars: &[u64], row: [u64; 8], used: usize) -> [
         i += 1;
     }
     next
+}
+
+// The positions of one word, behind those of the old one, to which one of two bytes leads and the other does not. before: the old word
+// before it.
+fn told_apart(one: u64, other: u64, old: u64, before: u64) -> u64
+    ensures { λ r. ⌜ (r ≡ 0 → AgreeIn (wordBit one) (wordBit other) (wordBit old) (wordBit before 63)) ⌝ }
+{
+    let behind = moved_up(old, before);
+    behind & (one ^ other)
+}
+
+// Whether two bytes lead from a row to the same positions, by its first words: none of those behind the row's positions tells them apart.
+pub fn leads_alike(one: &[u64], other: &[u64], row: [u64; 8], used: usize) -> bool
+    requires { ⌜ (8 ≤ length (now one)) × (8 ≤ length (now other)) × (used ≤ 8) ⌝ }
+    ensures { λ r. ⌜ (r ≡ true → LeadsAlike used (now (one .entry)) (now (other .entry)) row) ⌝ }
+{
+    let mut before: u64 = 0;
+    let mut i: usize = 0;
+    while i < used {
+        let old = row[i];
+        let apart = told_apart(one[i], other[i], old, before);
+        if apart != 0 {
+            return false;
+        }
+        before = old;
+        i += 1;
+    }
+    true
 }

@@ -34,9 +34,9 @@ loop-holds c =
     let a = c .before .before .before .before .args in
     let left = codesLeft (a .table .now) (a .first) in (
       omega (arith, c .before .before .before .before .pre),
-      sweep-next (a .begins) (a .b) (rowBit (a .row)) (1 ∷ left) 1 left (replicate 8 0) 0 false false (c .mark .result) (c .before .cell-step .result)
+      sweep-next (a .begins) (a .b) (rowBit (a .t5)) (1 ∷ left) 1 left (replicate 8 0) 0 false false (c .mark .result) (c .before .cell-step .result)
           (c .before .before .has-position .result) refl (c .before .before .has-position .ensures) (c .before .cell-step .ensures) (c .mark .ensures)
-          ∙ sweep-few (a .begins) (a .b) (1 ∷ left) (a .row) (omega (arith, c .before .before .before .before .pre)),
+          ∙ sweep-few (a .begins) (a .b) (1 ∷ left) (a .t5) (omega (arith, c .before .before .before .before .pre)),
     )
 
 next-symbol-requires : tie.Need-next-symbol-requires Inv-loop μ-loop
@@ -53,14 +53,20 @@ found c =
     let l = c .before .before .before .before .loop in
     next-more t (l .cursor) _ _ (sym (c .before .before .before .next-symbol .ensures) ∙ c .before .code .given .1)
 
-has-position-requires-2 : tie.Need-has-position-requires-2 Inv-loop μ-loop
-has-position-requires-2 c κs = search needs
+mul-word : tie.Need-mul-word Inv-loop μ-loop
+mul-word c = search needs
+
+array-read-word : tie.Need-array-read-word Inv-loop μ-loop
+array-read-word c = omega (arith, ap length (found c), c .before .before .before .before .loop .inv .0)
+
+shr-here : tie.Need-shr-here Inv-loop μ-loop
+shr-here c = search needs
 
 cell-step-requires-2 : tie.Need-cell-step-requires-2 Inv-loop μ-loop
 cell-step-requires-2 c κs = search needs
 
-mark-requires-2 : tie.Need-mark-requires-2 Inv-loop μ-loop
-mark-requires-2 c κs = omega (arith, ap length (found (c .before .before)), c .before .before .before .before .before .before .loop .inv .0)
+mark-in-requires : tie.Need-mark-in-requires Inv-loop μ-loop
+mark-in-requires c κs = omega (arith, ap length (found (c .before .before)), c .before .before .before .before .before .before .loop .inv .0)
 
 add-p : tie.Need-add-p Inv-loop μ-loop
 add-p c = omega (arith, ap length (found (c .before .before .before)), c .before .before .before .before .before .before .before .loop .inv .0)
@@ -69,6 +75,7 @@ loop-less : tie.Need-loop-less Inv-loop μ-loop
 loop-less c = omega (arith, ap length (found (c .before .before .before)))
 
 loop-again : tie.Need-loop-again Inv-loop μ-loop
+unfolding rowBit
 loop-again c =
     let l = c .before .before .before .before .before .before .before .loop in
     let a = c .before .before .before .before .before .before .before .before .before .before .before .before .args in
@@ -76,9 +83,9 @@ loop-again c =
     let given = c .before .before .before .before .code .given in
     let split = found (c .before .before .before) in (
       omega (arith, ap length split, l .inv .0),
-      sweep-next (a .begins) (a .b) (rowBit (a .row)) (codesLeft t (l .cursor)) (given .0 .0) (codesLeft t (given .0 .1 .0)) (l .next) (l .p) (l .new) (l .before)
-          (c .mark2 .result) (c .before .cell-step2 .result) (c .before .before .has-position2 .result) split
-          (c .before .before .has-position2 .ensures) (c .before .cell-step2 .ensures) (c .mark2 .ensures)
+      sweep-next (a .begins) (a .b) (rowBit (a .t5)) (codesLeft t (l .cursor)) (given .0 .0) (codesLeft t (given .0 .1 .0)) (l .next) (l .p) (l .new) (l .before)
+          (c .mark-in .last .0) (c .before .before .cell-step2 .result) (rowBit (a .t5) (l .p)) split
+          refl (c .before .before .cell-step2 .ensures) (c .mark-in .ensures)
           ∙ l .inv .1,
     )
 
@@ -89,7 +96,7 @@ returns : tie.Need-returns Inv-loop μ-loop
 returns c =
     let l = c .before .before .before .loop in
     let a = c .before .before .before .before .before .before .before .before .args in
-    ap (λ (m : List ℕ). sweep (a .begins) (a .b) (rowBit (a .row)) m (l .next) (l .p) (l .new) (l .before))
+    ap (λ (m : List ℕ). sweep (a .begins) (a .b) (rowBit (a .t5)) m (l .next) (l .p) (l .new) (l .before))
     (sym (next-done (a .table .now) (l .cursor) (sym (c .before .before .next-symbol .ensures) ∙ c .enum-told .given .1)))
     ∙ l .inv .1
 
@@ -105,9 +112,11 @@ row-of-value-spec =
     loop-holds
     next-symbol-requires
     enum-known-code
-    has-position-requires-2
+    mul-word
+    array-read-word
+    shr-here
     cell-step-requires-2
-    mark-requires-2
+    mark-in-requires
     add-p
     loop-less
     loop-again
