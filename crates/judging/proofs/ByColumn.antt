@@ -1,10 +1,9 @@
 -- A statement applies exactly when it holds in each of the eight columns: every list speaks of one column, and is no restriction in the
--- seven others. So the rows that apply are the meet of eight sets of rows.
+-- seven others.
 use Prim.Native.Nat.{ℕ, zero, suc, _+_}
 use mathlib.Core.Path.{_≡_, refl, sym, _∙_, ap, ap₂}
 use mathlib.Core.Bool.{Bool, true, false, not, _&&_, _||_, and-true}
 use mathlib.Core.List.{List, [], _∷_}
-use lib.Bits.{bitAnd}
 use lib.Dec.{eqb}
 use Rattle.stored.specs.Choice.{pick, every}
 use Rattle.stored.specs.Items.{columnPlace, keyCode}
@@ -17,7 +16,7 @@ use Rattle.judging.specs.Requests.{Value, columns, columnOf}
 use Rattle.judging.specs.Meaning.{elementHolds, conditionHolds, conditionColumn, applies, elementIn, conditionIn, holds, isAllow}
 use Rattle.judging.specs.Rows.{rowsWord}
 use Rattle.judging.specs.Walk.{gathered}
-use Rattle.judging.proofs.RowSets.{meet, same}
+use Rattle.judging.proofs.RowSets.{same}
 
 -- a test passes in every column
 abbrev pub inAll : (ℕ → Bool) → Bool
@@ -109,44 +108,6 @@ no-column v s =
     ap₂ _&&_
     (every-true (elementIn columns v) (s .elements) (λ e. ap (λ (t : Bool). pick t (elementHolds v e) true) (element-not-last (e .name))))
     (every-true (conditionIn columns v) (s .conditions) (λ d. ap (λ (t : Bool). pick t (conditionHolds v d) true) (key-not-last (d .key))))
-
--- the rows that apply, met as the judge meets them
-pub applying : (request : List Value) (rows : List Statement)
-    → rowsWord (applies request) rows
-    ≡ bitAnd
-    (bitAnd
-    (bitAnd (bitAnd (rowsWord (holds 0 (columnOf request 0)) rows) (rowsWord (holds 1 (columnOf request 1)) rows)) (rowsWord (holds 2 (columnOf request 2)) rows))
-    (bitAnd
-    (bitAnd (bitAnd (rowsWord (holds 3 (columnOf request 3)) rows) (rowsWord (holds 4 (columnOf request 4)) rows)) (rowsWord (holds 5 (columnOf request 5)) rows))
-    (rowsWord (holds 6 (columnOf request 6)) rows)))
-    (rowsWord (holds 7 (columnOf request 7)) rows)
-applying request rows =
-    same (applies request) (λ s. (elements s && keys s) && h 7 s) rows
-    (λ s. by-column request s ∙ grouped (elements s) (h 3 s) (h 4 s) (h 5 s) (h 6 s) (h 7 s))
-    ∙ sym (ap (λ (n : ℕ). bitAnd n (rowsWord (h 7) rows)) (ap₂ bitAnd meet-elements meet-keys ∙ meet elements keys rows)
-    ∙ meet (λ s. elements s && keys s) (h 7) rows)
-  where
-    h : ℕ → Statement → Bool
-    h c s = holds c (columnOf request c) s
-
-    elements : Statement → Bool
-    elements s = h 0 s && h 1 s && h 2 s
-
-    keys : Statement → Bool
-    keys s = h 3 s && h 4 s && h 5 s && h 6 s
-
-    grouped : (e a b c d t : Bool) → (e && a && b && c && d && t) ≡ ((e && (a && b && c && d)) && t)
-    grouped true a b c d t = refl
-    grouped false a b c d t = refl
-
-    meet-elements : bitAnd (bitAnd (rowsWord (h 0) rows) (rowsWord (h 1) rows)) (rowsWord (h 2) rows) ≡ rowsWord elements rows
-    meet-elements = ap (λ (n : ℕ). bitAnd n (rowsWord (h 2) rows)) (meet (h 0) (h 1) rows) ∙ meet (λ s. h 0 s && h 1 s) (h 2) rows
-
-    meet-keys : bitAnd (bitAnd (bitAnd (rowsWord (h 3) rows) (rowsWord (h 4) rows)) (rowsWord (h 5) rows)) (rowsWord (h 6) rows) ≡ rowsWord keys rows
-    meet-keys =
-        ap (λ (n : ℕ). bitAnd n (rowsWord (h 6) rows))
-        (ap (λ (n : ℕ). bitAnd n (rowsWord (h 5) rows)) (meet (h 3) (h 4) rows) ∙ meet (λ s. h 3 s && h 4 s) (h 5) rows)
-        ∙ meet (λ s. h 3 s && h 4 s && h 5 s) (h 6) rows
 
 -- the allow statements, which are the rows that count, hold in the column of which no list speaks
 pub allowing : (v : Value) (rows : List Statement) → rowsWord (gathered true columns v) rows ≡ rowsWord (λ s. isAllow (s .effect)) rows

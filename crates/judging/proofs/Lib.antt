@@ -5,5 +5,6 @@ pub mod Presence
 pub mod Records
 pub mod Refusing
 pub mod Walking
+pub mod Asking
 pub mod ByColumn
 pub mod Promises

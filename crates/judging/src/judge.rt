@@ -1,4 +1,5 @@
-// The judge: the rows that hold in all eight columns, then the verdict.
+// The judge: the rows that apply and the allow statements decide.
+use crate::applying::applying_rows;
 use crate::request::COLUMNS;
 use crate::request::Present;
 use crate::request::first_fault;
@@ -9,7 +10,7 @@ ghost use mathlib.Core.Path.{_≡_};
 ghost use Prim.Native.Nat.{_≤_};
 ghost use lib.ListN.{length};
 ghost use Rattle.judging.specs.Requests.{requestOf};
-ghost use Rattle.judging.specs.Meaning.{applies, isAllow};
+ghost use Rattle.judging.specs.Meaning.{isAllow};
 ghost use Rattle.judging.specs.Rows.{rowsWord};
 ghost use Rattle.judging.specs.Judging.{rowsOf, verdictOfRows, judged, judgement};
 
@@ -21,33 +22,6 @@ pub enum Judgement {
     NotMentioned,
     // The number of the refusal, and its place.
     Refused(u8, usize),
-}
-
-// The rows of a table that apply to a request: those that hold in every column.
-pub fn applying_rows(
-    table: &[u8],
-    principal: &[u8],
-    action: &[u8],
-    resource: &[u8],
-    present: Present,
-    vpc: &[u8],
-    prefix: &[u8],
-    vpce: &[u8],
-    referer: &[u8],
-    address: u32,
-) -> u64
-    requires { ⌜ length (rowsOf (now table)) ≤ 64 ⌝ }
-    ensures { λ r. ⌜ r ≡ rowsWord (applies (requestOf (now (principal .entry)) (now (action .entry)) (now (resource .entry)) present (now (vpc .entry)) (now (prefix .entry)) (now (vpce .entry)) (now (referer .entry)) address)) (rowsOf (now (table .entry))) ⌝ }
-{
-    let elements = rows_in(table, false, 0, true, principal, 0)
-        & rows_in(table, false, 1, true, action, 0)
-        & rows_in(table, false, 2, true, resource, 0);
-    let keys = rows_in(table, false, 3, present.vpc, vpc, 0)
-        & rows_in(table, false, 4, present.prefix, prefix, 0)
-        & rows_in(table, false, 5, present.vpce, vpce, 0)
-        & rows_in(table, false, 6, present.referer, referer, 0);
-    let addresses = rows_in(table, false, 7, present.address, referer, address);
-    elements & keys & addresses
 }
 
 // The allow statements of a table.

@@ -34,7 +34,7 @@ ghost use Rattle.judging.specs.Walk.{countsOf, elementBegun, conditionBe
 ghost use Rattle.judging.specs.Judging.{rowsOf};
 
 // The column of addresses.
-const ADDRESSES: usize = 7;
+pub(crate) const ADDRESSES: usize = 7;
 
 fn is_allow(effect: Effect) -> bool
     ensures { λ r. ⌜ r ≡ isAllow effect ⌝ }

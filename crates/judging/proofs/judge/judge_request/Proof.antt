@@ -9,7 +9,6 @@ use Rattle.judging.proofs.judge.judge_request.Tie as tie
 use Rattle.judging.proofs.judge.judge_request.Reads as reads
 use Rattle.judging.proofs.judge.judge_request.Lts as lts
 use Rattle.judging.proofs.judge.allow_rows.Reads as allow-rows-reads
-use Rattle.judging.proofs.judge.applying_rows.Reads as applying-rows-reads
 use Rattle.judging.proofs.judge.verdict_of.Reads as verdict-of-reads
 use Rattle.judging.proofs.request.first_fault.Reads as first-fault-reads
 

@@ -1,0 +1,21 @@
+-- The callees answer what the definition hands to the list that opens.
+use borrow.Author.Needs.{needs}
+use Rattle.judging.proofs.applying.element_asked.Statement.{statement}
+use Rattle.judging.proofs.applying.element_asked.Tie as tie
+
+is-negated-column-requires : tie.Need-is-negated-column-requires
+is-negated-column-requires c κs = search needs
+
+element-reading-requires : tie.Need-element-reading-requires
+element-reading-requires c κs = search needs
+
+opened-requires : tie.Need-opened-requires
+opened-requires c κs = search needs
+
+returns : tie.Need-returns
+returns c = simp (c .opened .ensures, c .before .before .is-negated-column .ensures, c .before .element-reading .ensures)
+
+pub element-asked-spec : {M : Type 1} → statement M
+element-asked-spec =
+    tie.close
+    (tie.spec is-negated-column-requires element-reading-requires opened-requires returns)
