@@ -21,8 +21,8 @@ module _ (first second : List Statement) (column : ℕ) (before after : List ℕ
   codes-few = omega (arith, codes-sum (valuesIn column (first ++ second)), narrow)
 
   -- at most 512 states, and all of them
-  pub found-states : r .states ≤ mostStates → HasStates first second column after (r .own) (r .states)
-  found-states few = record { explored = by (f .answer); mine = f .mine; narrow = narrow }
+  pub found-states : r .states ≤ mostStates → HasStates first second column after (r .states)
+  found-states few = record { explored = by (f .answer); narrow = narrow }
     where
       by : ((r .states ≤ mostStates) × Explored (codesOf (valuesIn column (first ++ second))) after (r .states))
           ⊎ ((r .states ≡ suc mostStates) × Exceeded (codesOf (valuesIn column (first ++ second))) after)

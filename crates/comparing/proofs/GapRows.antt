@@ -77,7 +77,7 @@ gap-rows first second sides told p =
     (ap₂ allowedRows (ap (λ (n : ℕ). rowsWord p (first ++ second) / 2 ^ n) (told .size) ∙ high-rows p first second) (told .other) ∙ allowed-rows p second)
 
 -- a meet only loses rows
-and-loses : (x y z : ℕ) → bitAnd (bitAnd x y) z ≤ bitAnd x z
+pub and-loses : (x y z : ℕ) → bitAnd (bitAnd x y) z ≤ bitAnd x z
 and-loses = bin-ind (λ (x : ℕ). (y z : ℕ) → bitAnd (bitAnd x y) z ≤ bitAnd x z) base step
   where
     base : (y z : ℕ) → bitAnd (bitAnd 0 y) z ≤ bitAnd 0 z
@@ -98,7 +98,7 @@ pub none-left : (x y z : ℕ) → bitAnd x z ≡ 0 → bitAnd (bitAnd x y) z ≡
 none-left x y z e = omega (arith, and-loses x y z)
 
 -- where no allow row of the first table is left there is no gap
-no-gap : (sides : Sides) (rows : ℕ) → bitAnd (rows % 2 ^ (sides .size)) (sides .allow) ≡ 0 → isGapRows sides rows ≡ false
+pub no-gap : (sides : Sides) (rows : ℕ) → bitAnd (rows % 2 ^ (sides .size)) (sides .allow) ≡ 0 → isGapRows sides rows ≡ false
 no-gap sides rows e =
     ap (λ (n : ℕ). (eqb n left && not (eqb left 0)) && not (allowedRows (rows / 2 ^ (sides .size)) (sides .other))) e
     ∙ ap (λ (t : Bool). t && not (allowedRows (rows / 2 ^ (sides .size)) (sides .other))) (by (eqb left 0) refl)

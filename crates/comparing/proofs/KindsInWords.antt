@@ -31,7 +31,7 @@ rest-most zero rest h = absurd (omega arith)
 rest-most (suc n) rest h = omega (arith, suc-mul n rest)
 
 module _ (words bounds : List ℕ) (column : ℕ) (low : column < 8) where
-  next-bound : getD bounds (column + 1) 0 ≡ getD bounds (suc column) 0
+  pub next-bound : getD bounds (column + 1) 0 ≡ getD bounds (suc column) 0
   next-bound = ap (λ (n : ℕ). getD bounds n 0) (add-one column)
 
   -- the columns from a column on are this one and those behind it

@@ -9,7 +9,7 @@ use Rattle.stored.specs.Tables.{Statement}
 use Rattle.matching.specs.Codes.{codesOf}
 use Rattle.comparing.specs.Columns.{valuesIn, sumOf}
 use Rattle.comparing.specs.Kinds.{printsAt}
-use Rattle.comparing.specs.Search.{codesAt, codesLaid}
+use Rattle.comparing.specs.Search.{codesAt, takenAt, codesLaid}
 use Rattle.comparing.specs.Survey.{Narrow}
 use Rattle.comparing.proofs.Widths.{codes-sum, sum-both}
 use Rattle.comparing.proofs.StateWalk.{codes-both}
@@ -31,8 +31,8 @@ module _ (words part : List ℕ) (room : printsAt ≤ length words) (size : leng
   pub from-codes : drop codesAt (withCodes words part) ≡ part ++ drop 512 (drop codesAt words)
   from-codes = drop-at (take codesAt words) (part ++ drop 512 (drop codesAt words)) codesAt (length-take-le codesAt words (omega arith))
 
-  pub from-prints : drop printsAt (withCodes words part) ≡ drop printsAt words
-  from-prints =
+  pub from-taken : drop takenAt (withCodes words part) ≡ drop takenAt words
+  from-taken =
       sym (drop-drop 512 codesAt (withCodes words part))
       ∙ ap (drop 512) from-codes
       ∙ drop-at part (drop 512 (drop codesAt words)) 512 size
@@ -93,11 +93,16 @@ module _ (words : List ℕ) (room : printsAt ≤ length words) where
           is-two
           ∙ ap₂ (λ (n : ℕ) (l : List ℕ). sets l n b) {x = own} {y = length a} (omega (arith, codes-sum (valuesIn column first))) (here ∙ is-one)
 
-  pub prints-stay : (one two after : List ℕ) → length one ≡ 512 → length two ≡ 512
-      → drop codesAt after ≡ drop codesAt (withCodes (withCodes words one) two) → drop printsAt after ≡ drop printsAt words
-  prints-stay one two after size-one size-two same =
-      sym (drop-drop 512 codesAt after)
-      ∙ ap (drop 512) same
-      ∙ drop-drop 512 codesAt (withCodes (withCodes words one) two)
-      ∙ from-prints (withCodes words one) two (omega (arith, with-length words one room size-one)) size-two
-      ∙ from-prints words one room size-one
+  pub prints-stay : (one two laid after : List ℕ) → length one ≡ 512 → length two ≡ 512
+      → drop printsAt laid ≡ drop printsAt (withCodes (withCodes words one) two) → drop codesAt after ≡ drop codesAt laid
+      → drop printsAt after ≡ drop printsAt words
+  prints-stay one two laid after size-one size-two kept same =
+      sym (drop-drop 1368 codesAt after)
+      ∙ ap (drop 1368) same
+      ∙ drop-drop 1368 codesAt laid
+      ∙ kept
+      ∙ sym (drop-drop 856 takenAt (withCodes (withCodes words one) two))
+      ∙ ap (drop 856)
+      (from-taken (withCodes words one) two (omega (arith, with-length words one room size-one)) size-two
+      ∙ from-taken words one room size-one)
+      ∙ drop-drop 856 takenAt words

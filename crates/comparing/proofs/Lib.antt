@@ -22,6 +22,8 @@ pub mod StateWalk
 pub mod Below
 pub mod RowsInWords
 pub mod Stepping
+pub mod MarkedBytes
+pub mod TakenRows
 pub mod StringsOfRows
 pub mod Room
 pub mod Edges
@@ -38,10 +40,16 @@ pub mod ColumnSurveyed
 pub mod ColumnsSurveyed
 pub mod LeftInColumn
 pub mod Laying
+pub mod PlanNetworks
+pub mod PlanDecides
+pub mod PlanSteps
+pub mod PlanShort
+pub mod PlansLaid
 pub mod PrintWords
 pub mod NotWide
 pub mod BothRead
 pub mod KindsInWords
+pub mod Settling
 pub mod GapPrints
 pub mod Pigeonhole
 pub mod Refusals

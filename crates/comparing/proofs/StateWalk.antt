@@ -6,14 +6,10 @@ use mathlib.Core.Bool.{Bool, true, false, not, _&&_, and-true, and-false}
 use mathlib.Core.List.{List, [], _∷_, _++_, append-assoc, append-nil}
 use native.Mathlib.Omega.{arith}
 use lib.Dec.{eqb}
-use lib.ListN.{length, take, drop, length-append, length-map}
+use lib.ListN.{length, length-append, length-map}
 use Rattle.stored.specs.Choice.{pick}
 use Rattle.stored.specs.Items.{columnPlace, keyCode}
-use Rattle.stored.specs.Records.{recordAt}
-use Rattle.stored.specs.Entries.{Entry, entryOf, entriesFrom, Accepted}
-use Rattle.stored.specs.declared.items.Item.{Item}
-use Rattle.stored.specs.declared.records.Record.the-variants as I
-use Rattle.stored.proofs.Walking.{goes-on, ends-cut, ends-strange, past}
+use Rattle.stored.specs.Entries.{Entry, Accepted}
 use Rattle.stored.specs.Tables.{Listed, Statement, tableOf}
 use Rattle.stored.proofs.Choosing.{never}
 use Rattle.matching.specs.declared.reading.Reading.{Reading}
@@ -36,22 +32,6 @@ use Rattle.comparing.specs.Contents.{texts, contentsFrom}
 use Rattle.comparing.specs.Search.{mostStates, stateStep, positionBehind, runState}
 use Rattle.comparing.proofs.ColumnContents.{walk-contents, texts-in}
 use Rattle.comparing.proofs.Widths.{values-append}
-
--- the loop: a record is one step, and a cut or strange record, and the end of the table, end the walk
-module _ (column : ℕ) (row : List ℕ) (w : Walk) (p : ℕ) (t : List ℕ) (at : ℕ) where
-  pub state-on : (i : Item) (s n : ℕ) → recordAt t at ≡ I.Is i s n
-      → runState column row w p (entriesFrom t at)
-      ≡ runState column row (stateStep column row w p (entryOf i (take n (drop s t)))) (positionBehind (w .here) p (entryOf i (take n (drop s t)))) (entriesFrom t (s + n))
-  state-on i s n e = ap (runState column row w p) (goes-on t at i s n e)
-
-  pub state-cut : recordAt t at ≡ I.Cut → runState column row w p (entriesFrom t at) ≡ w
-  state-cut e = ap (runState column row w p) (ends-cut t at e)
-
-  pub state-strange : recordAt t at ≡ I.Strange → runState column row w p (entriesFrom t at) ≡ w
-  state-strange e = ap (runState column row w p) (ends-strange t at e)
-
-  pub state-past : length t ≤ at → runState column row w p (entriesFrom t at) ≡ w
-  state-past h = state-cut (past t at h)
 
 -- a value that is seen leaves the list at hand as it is
 seen-here : (t hit : Bool) (w : Walk) → pick t (seenOf hit w) w .here ≡ w .here

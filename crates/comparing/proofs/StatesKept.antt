@@ -1,25 +1,28 @@
--- A search is not touched by what is written behind its rows, keys and codes.
+-- The rows and keys of a search are not touched by what is written behind them.
 use Prim.Native.Nat.{ℕ, _+_, _*_, _/_, _%_, _≤_, _<_}
-use mathlib.Core.Path.{_≡_, refl, sym, ap, ap₂, _∙_, subst}
-use mathlib.Core.List.{List, [], _∷_}
+use mathlib.Core.Path.{_≡_, sym, ap, _∙_, subst}
+use mathlib.Core.List.{List, _++_}
 use mathlib.Core.Logic.{_⊎_, inl, inr}
 use native.Mathlib.Omega.{arith}
-use lib.ListN.{length, getD, take, drop}
+use lib.ListN.{getD, take}
 use lib.Seq.{getD-take}
+use Rattle.stored.specs.Tables.{Statement}
+use Rattle.matching.specs.Codes.{codesOf}
 use Rattle.matching.specs.Rows.{stepRow}
-use Rattle.comparing.specs.Kinds.{printsAt}
-use Rattle.comparing.specs.Search.{mostStates, keysAt, rowAt, keyAt, IsByte, stepFrom, Partial}
+use Rattle.comparing.specs.Columns.{valuesIn}
+use Rattle.comparing.specs.Survey.{HasStates}
+use Rattle.comparing.specs.Search.{mostStates, keysAt, codesAt, rowAt, keyAt, IsByte, stepFrom, Partial}
 use Rattle.comparing.proofs.AddingPrints.{part-kept}
 
-module _ (words after : List ℕ) (same : take printsAt after ≡ take printsAt words) where
+module _ (words after : List ℕ) (same : take codesAt after ≡ take codesAt words) where
   pub row-stays : (i : ℕ) → i < mostStates → rowAt after i ≡ rowAt words i
-  row-stays i low = part-kept after words printsAt (i * 8) 8 same (omega arith)
+  row-stays i low = part-kept after words codesAt (i * 8) 8 same (omega arith)
 
   pub key-stays : (i : ℕ) → i < mostStates → keyAt after i ≡ keyAt words i
   key-stays i low =
-      sym (getD-take printsAt after (keysAt + i) 0 (omega arith))
+      sym (getD-take codesAt after (keysAt + i) 0 (omega arith))
       ∙ ap (λ (l : List ℕ). getD l (keysAt + i) 0) same
-      ∙ getD-take printsAt words (keysAt + i) 0 (omega arith)
+      ∙ getD-take codesAt words (keysAt + i) 0 (omega arith)
 
   pub search-stays : (codes : List ℕ) (n t : ℕ) → Partial codes words n t → Partial codes after n t
   search-stays codes n t p =
@@ -57,3 +60,12 @@ module _ (words after : List ℕ) (same : take printsAt after ≡ take printsAt 
             row-stays (r .0) (omega arith) ∙ r .2 ∙ ap (stepRow codes b) (sym (row-stays i (omega arith))),
             sooner i b (r .0) (omega arith) (r .3),
           )
+
+-- the states of a column stay found
+pub states-kept : (first second : List Statement) (column : ℕ) (words after : List ℕ) (states : ℕ) → take codesAt after ≡ take codesAt words
+    → HasStates first second column words states → HasStates first second column after states
+states-kept first second column words after states same h =
+    record {
+      explored = search-stays words after same (codesOf (valuesIn column (first ++ second))) states _ (h .explored);
+      narrow = h .narrow;
+    }

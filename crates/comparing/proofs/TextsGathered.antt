@@ -12,10 +12,10 @@ use Rattle.judging.specs.Requests.{Value, absent, text}
 use Rattle.comparing.specs.Columns.{valuesIn, sumOf}
 use Rattle.comparing.specs.Kinds.{printsAt}
 use Rattle.comparing.specs.Product.{printOf}
-use Rattle.comparing.specs.Search.{mostStates, textAt, stringOf, addingRows}
+use Rattle.comparing.specs.Search.{mostStates, codesAt, textAt, stringOf, addingRows}
 use Rattle.comparing.specs.Survey.{HasRoom, HasStates, printsBetween, printAt, addPrint, Added, RowsAdded, Gathered}
 use Rattle.comparing.proofs.AddingPrints.{prints-none, prints-length, part-kept, front-kept}
-use Rattle.comparing.proofs.StatesKept.{search-stays}
+use Rattle.comparing.proofs.StatesKept.{states-kept}
 use Rattle.comparing.proofs.Widths.{codes-sum}
 use Rattle.comparing.proofs.NoValues.{no-values, texts-alike, firsts-none}
 use Rattle.comparing.proofs.Gathering.{alike-printed}
@@ -47,7 +47,7 @@ module _ (first second : List Statement) (column : ℕ) where
         same = same;
       }
 
-  module _ (words : List ℕ) (own states from : ℕ) (h : HasStates first second column words own states) (r : HasRoom words from) where
+  module _ (words : List ℕ) (states from : ℕ) (h : HasStates first second column words states) (r : HasRoom words from) where
     codes-few : length (codesOf (valuesIn column (first ++ second))) ≤ mostStates
     codes-few = omega (arith, codes-sum (valuesIn column (first ++ second)), h .narrow)
 
@@ -92,15 +92,8 @@ module _ (first second : List Statement) (column : ℕ) where
 
     module _ (middle : List ℕ) (p start : ℕ) (is : p ≡ printOf first second column absent) (begun : Added words middle from from p start) where
       -- the search is not touched by the footprint of absence
-      pub states-stay : HasStates first second column middle own states
-      states-stay =
-          record {
-            explored =
-                search-stays words middle (front-kept middle words (printsAt + from) printsAt (begun .kept) (omega arith))
-                (codesOf (valuesIn column (first ++ second))) states _ (h .explored);
-            mine = h .mine;
-            narrow = h .narrow;
-          }
+      pub states-stay : HasStates first second column middle states
+      states-stay = states-kept first second column words middle states (front-kept middle words (printsAt + from) codesAt (begun .kept) (omega arith)) h
 
       -- absence, then all rows
       pub gathered-optional : (after : List ℕ) (to : ℕ) → 3 ≤ column → column < 7

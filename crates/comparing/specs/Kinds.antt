@@ -1,7 +1,8 @@
 -- What the functions that count and find gaps promise each other: gaps as sets of rows, column by column. Row i of both tables is
 -- bit i, the first table's rows below the second's.
-use Prim.Native.Nat.{ℕ, zero, suc, _+_, _-_, _/_, _%_, _^_, _≤_, _<_}
-use mathlib.Core.Bool.{Bool, true, false, not, _&&_}
+use Prim.Native.Nat.{ℕ, zero, suc, _+_, _-_, _*_, _/_, _%_, _^_, _≤_, _<_}
+use mathlib.Core.Path.{_≡_}
+use mathlib.Core.Bool.{Bool, true, false, not, _&&_, _||_}
 use mathlib.Core.List.{List, [], _∷_}
 use lib.Bits.{bitAnd}
 use lib.Dec.{eqb, ltb}
@@ -62,13 +63,15 @@ printsAlong sides (prints ∷ more) rows k =
     let step = stepOf sides (prints ∷ more) rows k in
     step .print ∷ printsAlong sides more (bitAnd rows (step .print)) (step .left)
 
--- the footprints of a column in the workspace, from word 5,120 on, between the column's bound and the next one's
+-- the footprints of a column in the workspace, from word 5,976 on, between the column's bound and the next one's
 abbrev pub printsAt : ℕ
-printsAt = 5120
+printsAt = 5976
+
+abbrev pub printsBetween : List ℕ → ℕ → ℕ → List ℕ
+printsBetween words from to = take (to - from) (drop (printsAt + from) words)
 
 abbrev pub columnPrints : List ℕ → List ℕ → ℕ → List ℕ
-columnPrints words bounds column =
-    take (getD bounds (suc column) 0 - getD bounds column 0) (drop (printsAt + getD bounds column 0) words)
+columnPrints words bounds column = printsBetween words (getD bounds column 0) (getD bounds (suc column) 0)
 
 -- the footprints of n columns from a column on
 abbrev pub printsFrom : ℕ → List ℕ → List ℕ → ℕ → List (List ℕ)
@@ -79,7 +82,39 @@ printsFrom (suc n) words bounds column = columnPrints words bounds column ∷ pr
 abbrev pub printsIn : List ℕ → List ℕ → ℕ → List (List ℕ)
 printsIn words bounds column = printsFrom (8 - column) words bounds column
 
--- nine bounds, ascending and within the words
+-- nine bounds that ascend
+abbrev pub Ascending : List ℕ → Type 0
+Ascending bounds = (c : ℕ) → c < 8 → getD bounds c 0 ≤ getD bounds (suc c) 0
+
+-- and lie within the words
 pub record Bounded (words bounds : List ℕ) : Type 0 where
-  pub ascends : (c : ℕ) → c < 8 → getD bounds c 0 ≤ getD bounds (suc c) 0
+  pub ascends : Ascending bounds
   pub within : printsAt + getD bounds 8 0 ≤ length words
+
+-- the rows of a set that some footprints all have too
+abbrev pub meetAll : ℕ → List ℕ → ℕ
+meetAll rows [] = rows
+meetAll rows (f ∷ prints) = meetAll (bitAnd rows f) prints
+
+-- the rows that all footprints of some columns have
+abbrev pub meetOf : List (List ℕ) → ℕ
+meetOf [] = 2 ^ 64 - 1
+meetOf (prints ∷ more) = meetAll (meetOf more) prints
+
+-- for each column, the rows that all footprints of the columns from it on have
+pub record MeetsAhead (words bounds meets : List ℕ) : Type 0 where
+  pub at : (c : ℕ) → c ≤ 8 → getD meets c 0 ≡ meetOf (printsIn words bounds c)
+
+-- the number of kinds of n columns from a column on
+abbrev pub kindsFrom : ℕ → List ℕ → ℕ → ℕ
+kindsFrom zero bounds column = 1
+kindsFrom (suc n) bounds column = (getD bounds (suc column) 0 - getD bounds column 0) * kindsFrom n bounds (suc column)
+
+-- for each column, the number of kinds of the columns from it on, as a number of 32 bits
+pub record KindsAhead (bounds kinds : List ℕ) : Type 0 where
+  pub at : (c : ℕ) → c ≤ 8 → getD kinds c 0 ≡ kindsFrom (8 - c) bounds c % 2 ^ 32
+
+-- no allow row of the first table is left, or all rows that are left are in every footprint ahead
+abbrev pub isSettled : Sides → ℕ → ℕ → Bool
+isSettled sides meet rows =
+    eqb (bitAnd (rows % 2 ^ (sides .size)) (sides .allow)) 0 || eqb (bitAnd rows meet) rows

@@ -10,6 +10,7 @@ pub mod Product
 pub mod Search
 pub mod Survey
 pub mod Contents
+pub mod Plan
 pub mod Prints
 pub mod Lists
 pub mod ShownValues

@@ -1,20 +1,25 @@
--- What the functions that explore a column promise each other. The words of the workspace below 5,120: 512 rows of eight words, the
--- key of each row, and the codes of the column's positions. A step from row i by byte b has the number i * 128 + b, and a
--- row's key is the number of the step that found it.
+-- What the functions that explore a column promise each other. The words of the workspace below 5,976: 512 rows of eight words, the
+-- key of each row, the codes of the column's positions, a row of the positions that take each byte, one of those behind stars, and a
+-- word for each byte that is 0 only where a smaller byte is taken by the same positions. A step from row i by byte b has the number
+-- i * 128 + b, and a row's key is the number of the step that found it.
 use Prim.Native.Nat.{ℕ, zero, suc, _+_, _*_, _/_, _%_, _^_, _≤_, _<_, min}
 use mathlib.Core.Path.{_≡_}
-use mathlib.Core.Bool.{Bool, true, false}
+use mathlib.Core.Bool.{Bool, true, false, _||_}
 use mathlib.Core.List.{List, [], _∷_, _++_}
 use mathlib.Core.Logic.{_⊎_}
 use lib.Dec.{eqb, ltb}
-use lib.ListN.{length, getD, take, drop}
+use lib.Bits.{bitOr}
+use lib.ListN.{length, getD, take, drop, set}
 use Rattle.stored.specs.Choice.{pick, some}
 use Rattle.stored.specs.Entries.{Entry}
+use Rattle.matching.specs.Codes.{oneCode, takesByte}
 use Rattle.matching.specs.Network.{networkLow, networkHigh}
-use Rattle.matching.specs.Rows.{rowBit, firstRow, stepRow, forward}
+use Rattle.matching.specs.Rows.{rowBit, firstRow, stepRow, forward, markRow}
+use Rattle.matching.specs.Words.{takenRow, starRow}
 use Rattle.judging.specs.declared.walk.Walk.{Walk}
 use Rattle.judging.specs.Requests.{Value, absent, text, number}
 use Rattle.judging.specs.Walk.{beganOf, mattersOf, seenOf, elementBegun, conditionBegun}
+use Rattle.comparing.specs.Kinds.{printsAt}
 
 -- the room for rows, and where keys and codes begin
 abbrev pub mostStates : ℕ
@@ -38,14 +43,96 @@ keyAt words i = getD words (keysAt + i) 0
 abbrev pub codesLaid : ℕ → List ℕ → List ℕ
 codesLaid positions words = take positions (drop codesAt words)
 
--- a workspace that has room for a search, and the codes of so many positions
-pub record Searchable (positions : ℕ) (words : List ℕ) : Type 0 where
-  pub most : positions ≤ 512
-  pub room : 5120 ≤ length words
-
 -- the bytes of strings
 abbrev pub IsByte : ℕ → Type 0
 IsByte b = (0x21 ≤ b) × (b ≤ 0x7E)
+
+-- where the rows of the bytes begin, the row of the stars, and the words of the bytes
+abbrev pub takenAt : ℕ
+takenAt = 5120
+
+abbrev pub starsAt : ℕ
+starsAt = 5872
+
+abbrev pub leadersAt : ℕ
+leadersAt = 5880
+
+-- the row of a byte, the first byte's being number 640, and the row of the stars
+abbrev pub takenLaid : List ℕ → ℕ → List ℕ
+takenLaid words b = rowAt words (607 + b)
+
+abbrev pub starsLaid : List ℕ → List ℕ
+starsLaid words = rowAt words 734
+
+-- the word of a byte, the first byte's being number 5,880
+abbrev pub leaderLaid : List ℕ → ℕ → ℕ
+leaderLaid words b = getD words (5847 + b) 0
+
+-- position p marked in row i
+abbrev pub markedAt : List ℕ → ℕ → ℕ → List ℕ
+markedAt words i p = set words (i * 8 + p / 64) (bitOr (getD words (i * 8 + p / 64) 0) (2 ^ (p % 64)))
+
+-- whether a position with this code takes a byte
+abbrev pub takes : ℕ → ℕ → Bool
+takes code b = eqb code oneCode || takesByte code b
+
+-- position p was marked in the rows of some bytes, and nothing else was changed
+pub record Marks (before after : List ℕ) (p : ℕ) (marked : ℕ → Bool) : Type 0 where
+  pub rows : (b : ℕ) → IsByte b → takenLaid after b ≡ markRow (takenLaid before b) p (marked b)
+  pub front : take takenAt after ≡ take takenAt before
+  pub behind : drop starsAt after ≡ drop starsAt before
+  pub same : length after ≡ length before
+
+-- the rows of all bytes are laid down for these codes
+abbrev pub TakenLaid : List ℕ → List ℕ → Type 0
+TakenLaid codes words = (b : ℕ) → IsByte b → takenLaid words b ≡ takenRow codes b
+
+-- they were laid down; what is before and behind them stays
+pub record RowsLaid (codes before after : List ℕ) : Type 0 where
+  pub taken : TakenLaid codes after
+  pub front : take takenAt after ≡ take takenAt before
+  pub behind : drop starsAt after ≡ drop starsAt before
+  pub same : length after ≡ length before
+
+-- a smaller byte has the same row
+abbrev pub RowBefore : List ℕ → ℕ → Type 0
+RowBefore words b = (a : ℕ) × IsByte a × (a < b) × (takenLaid words a ≡ takenLaid words b)
+
+-- the words of the bytes below a bound were laid down: 0 only where a smaller byte has the same row
+pub record LeadersUpto (before after : List ℕ) (bound : ℕ) : Type 0 where
+  pub leads : (b : ℕ) → IsByte b → b < bound → leaderLaid after b ≡ 0 → RowBefore before b
+  pub front : take leadersAt after ≡ take leadersAt before
+  pub behind : drop printsAt after ≡ drop printsAt before
+  pub same : length after ≡ length before
+
+-- no byte from one on below r leads; r is a byte, or the number behind the last
+pub record NextLeader (words : List ℕ) (from r : ℕ) : Type 0 where
+  pub low : from ≤ r
+  pub high : r ≤ 127
+  pub between : (x : ℕ) → from ≤ x → x < r → leaderLaid words x ≡ 0
+
+-- a smaller byte is taken by the same positions
+abbrev pub Follows : List ℕ → ℕ → Type 0
+Follows codes b = (a : ℕ) × IsByte a × (a < b) × (takenRow codes a ≡ takenRow codes b)
+
+-- which positions take a byte and which stand behind a star, for these codes
+pub record Takes (codes words : List ℕ) : Type 0 where
+  pub taken : TakenLaid codes words
+  pub stars : starsLaid words ≡ starRow codes
+  pub leads : (b : ℕ) → IsByte b → leaderLaid words b ≡ 0 → Follows codes b
+
+-- all of this was laid down; what is before and behind it stays
+pub record LaysTaken (codes before after : List ℕ) : Type 0 where
+  pub takes : Takes codes after
+  pub front : take takenAt after ≡ take takenAt before
+  pub behind : drop printsAt after ≡ drop printsAt before
+  pub same : length after ≡ length before
+
+-- a workspace that has room for a search, and the codes of so many positions
+pub record Searchable (positions : ℕ) (words : List ℕ) : Type 0 where
+  pub most : positions ≤ 512
+  pub room : printsAt ≤ length words
+  pub takes : Takes (codesLaid positions words) words
 
 -- where the step from row i by byte b leads, given the codes of the column
 abbrev pub stepFrom : List ℕ → List ℕ → ℕ → ℕ → List ℕ
@@ -102,6 +189,12 @@ pub record FirstAt (words : List ℕ) (n : ℕ) (row : List ℕ) (r : ℕ) : Typ
   pub low : r ≤ n
   pub here : r < n → rowAt words r ≡ row
   pub before : (j : ℕ) → j < r → rowAt words j ≡ row → ⊥
+
+-- r is one of n rows that is this one, or n where none is
+pub record FoundAt (words : List ℕ) (n : ℕ) (row : List ℕ) (r : ℕ) : Type 0 where
+  pub low : r ≤ n
+  pub here : r < n → rowAt words r ≡ row
+  pub none : n ≤ r → (j : ℕ) → j < n → rowAt words j ≡ row → ⊥
 
 -- each of n rows but the first has an older one and a byte that it was found by
 pub record Keyed (words : List ℕ) (n : ℕ) : Type 0 where

@@ -15,6 +15,7 @@ use Rattle.judging.specs.Requests.{Value}
 use Rattle.judging.specs.Judging.{rowsOf}
 use Rattle.comparing.specs.Columns.{valuesIn, sumOf, networksIn, Few, TooMany}
 use Rattle.comparing.specs.Compared.{Crowded, Uncrowded, product, mostKinds}
+pub use Rattle.comparing.specs.Kinds.{printsBetween}
 use Rattle.comparing.specs.Kinds.{printsAt, printsIn, Bounded}
 use Rattle.comparing.specs.Product.{Firsts, AllFirsts, printOf, printsFrom}
 use Rattle.comparing.specs.Search.{mostStates, textAt, addingRows, Explored, Exceeded}
@@ -44,10 +45,6 @@ pub record HasRoom (words : List ℕ) (from : ℕ) : Type 0 where
   pub low : from ≤ 1094
   pub room : 8192 ≤ length words
 
--- the footprints from one bound to another
-abbrev pub printsBetween : List ℕ → ℕ → ℕ → List ℕ
-printsBetween words from to = take (to - from) (drop (printsAt + from) words)
-
 -- a footprint joins those of its column, unless it is among them
 abbrev pub addPrint : List ℕ → ℕ → List ℕ
 addPrint prints print = pick (some (λ x. eqb x print) prints) prints (prints ++ (print ∷ []))
@@ -65,9 +62,8 @@ abbrev pub printAt : List Statement → List Statement → ℕ → List ℕ → 
 printAt first second column words i = printOf first second column (textAt words i)
 
 -- the states of a column were explored, the codes of the first table's values before those of the second's
-pub record HasStates (first second : List Statement) (column : ℕ) (words : List ℕ) (own states : ℕ) : Type 0 where
+pub record HasStates (first second : List Statement) (column : ℕ) (words : List ℕ) (states : ℕ) : Type 0 where
   pub explored : Explored (codesOf (valuesIn column (first ++ second))) words states
-  pub mine : own ≡ sumOf (valuesIn column first)
   pub narrow : Narrow (first ++ second) column
 
 -- the footprints of n rows of states from a row on joined those that were there

@@ -4,10 +4,9 @@ use crate::answers::Showing;
 use crate::contents::networks_in;
 use crate::contents::positions_in;
 use crate::kinds::Sides;
-use crate::kinds::count;
+use crate::kinds::count_gaps;
 use crate::kinds::gap_prints;
 use crate::limits::ADDRESSES;
-use crate::limits::ALL_ROWS;
 use crate::limits::COLUMNS;
 use crate::limits::MOST_NETWORKS;
 use crate::limits::MOST_POSITIONS;
@@ -32,7 +31,7 @@ ghost use Rattle.comparing.specs.Product.{SidesOf};
 ghost use Rattle.comparing.specs.Survey.{BothRead};
 
 // All words are zero.
-fn clear(words: &mut [u64])
+pub(crate) fn clear(words: &mut [u64])
     ensures { λ r. ⌜ now (words .exit) ≡ replicate (length (now (words .entry))) 0 ⌝ }
 {
     let mut i: usize = 0;
@@ -112,7 +111,7 @@ fn count_read(words: &mut [u64], first: &[u8], second: &[u8], rows: u8) -> Count
     }
     let bounds = found.bounds;
     let sides = sides_of(first, second, rows);
-    Counting::Gaps(count(words, bounds, sides, 0, ALL_ROWS))
+    Counting::Gaps(count_gaps(words, bounds, sides))
 }
 
 // The number of gaps, where the workspace is long enough.
@@ -167,7 +166,7 @@ fn find_read(
     }
     let bounds = found.bounds;
     let sides = sides_of(first, second, rows);
-    if count(words, bounds, sides, 0, ALL_ROWS) <= k {
+    if count_gaps(words, bounds, sides) <= k {
         return Showing::Refused(13, 0, 0);
     }
     let prints = gap_prints(words, bounds, sides, k);

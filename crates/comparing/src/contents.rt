@@ -1,12 +1,9 @@
 // What stands in a column of a table: its values and networks, counted, and its values' codes laid down.
 use crate::limits::ADDRESSES;
-use crate::limits::NO_ADDRESS;
 use judging::rows::element_reading;
 use judging::rows::key_column;
 use judging::rows::operator_reading;
 use matching::codes::START;
-use matching::network::network_high;
-use matching::network::network_low;
 use matching::reading::Reading;
 use matching::symbols::Next;
 use matching::symbols::next_symbol;
@@ -17,7 +14,7 @@ use stored::records::Record;
 use stored::records::record_at;
 ghost use mathlib.Core.Path.{_≡_};
 ghost use mathlib.Core.List.{[]};
-ghost use Prim.Native.Nat.{_+_, _≤_, min};
+ghost use Prim.Native.Nat.{_+_, _≤_};
 ghost use lib.ListN.{length, take, drop};
 ghost use lib.Seq.{sets};
 ghost use Rattle.stored.specs.Entries.{entriesOf, Accepted};
@@ -25,7 +22,6 @@ ghost use Rattle.stored.specs.Writing.{HasKind};
 ghost use Rattle.matching.specs.Codes.{valueCodes, codesOf};
 ghost use Rattle.judging.specs.Judging.{rowsOf};
 ghost use Rattle.comparing.specs.Columns.{valuesIn, sumOf, networksIn};
-ghost use Rattle.comparing.specs.Search.{above, nextEdge};
 ghost use Rattle.comparing.specs.Contents.{texts, networks};
 ghost use Rattle.comparing.specs.Lists.{listOf, freshList, movedOf, foundOf, positionsOf};
 
@@ -257,76 +253,4 @@ pub(crate) fn lay_codes(codes: &mut [u64], from: usize, table: &[u8], column: us
         }
     }
     to
-}
-
-// The end of a network if it lies above an address, else 2 ^ 32.
-fn end_above(end: u64, x: u64) -> u64
-    ensures { λ r. ⌜ r ≡ above end x ⌝ }
-{
-    if x < end {
-        return end;
-    }
-    NO_ADDRESS
-}
-
-// The lesser of two numbers.
-pub(crate) fn lesser(a: u64, b: u64) -> u64
-    ensures { λ r. ⌜ r ≡ min a b ⌝ }
-{
-    if a <= b {
-        return a;
-    }
-    b
-}
-
-// The least end above an address of the network that a record adds to the column, 2 ^ 32 if there is none.
-fn edge_of(list: ListAt, item: Item, x: u64) -> u64
-    ensures { λ r. ⌜ r ≡ nextEdge (networks (foundOf list item [])) x ⌝ }
-{
-    match item {
-        Item::Start(_) => NO_ADDRESS,
-        Item::Statement(_) => NO_ADDRESS,
-        Item::Column(_) => NO_ADDRESS,
-        Item::Condition(_, _) => NO_ADDRESS,
-        Item::Network(network, prefix) => {
-            if list.here {
-                let low = end_above(network_low(network, prefix) as u64, x);
-                let high = end_above((network_high(network, prefix) as u64) + 1, x);
-                let least = lesser(low, high);
-                return lesser(least, NO_ADDRESS);
-            }
-            NO_ADDRESS
-        }
-        Item::Value => NO_ADDRESS,
-        Item::End => NO_ADDRESS,
-    }
-}
-
-// The least end of a network above an address, 2 ^ 32 if there is none.
-pub(crate) fn next_edge(table: &[u8], x: u64) -> u64
-    requires { ⌜ Accepted (entriesOf (now table)) ⌝ }
-    ensures { λ r. ⌜ r ≡ nextEdge (networksIn (rowsOf (now (table .entry)))) x ⌝ }
-{
-    let mut list = fresh_list();
-    let mut least: u64 = NO_ADDRESS;
-    let mut at: usize = 0;
-    while at < table.len() {
-        match record_at(table, at) {
-            Record::Is(item, start, size) => {
-                let edge = edge_of(list, item, x);
-                let less = lesser(least, edge);
-                let next = moved(list, item, ADDRESSES);
-                least = less;
-                list = next;
-                at = start + size;
-            }
-            Record::Cut => {
-                return least;
-            }
-            Record::Strange => {
-                return least;
-            }
-        }
-    }
-    least
 }

@@ -3,15 +3,27 @@ use crate::limits::CODES;
 use crate::limits::FIRST_BYTE;
 use crate::limits::KEYS;
 use crate::limits::LAST_BYTE;
+use crate::limits::LEADER;
 use crate::limits::MOST_STATES;
+use crate::limits::STARS;
+use crate::limits::TAKEN_ROW;
 use crate::limits::TOO_MANY_STATES;
 use matching::state::first_state;
-use matching::state::next_state;
+use matching::words::leads_alike;
+use matching::words::step_words;
 ghost use mathlib.Core.Path.{_≡_};
+ghost use mathlib.Core.Bool.{true};
 ghost use Prim.Native.Nat.{_+_, _*_, _≤_, _<_};
 ghost use lib.ListN.{length};
 ghost use lib.Seq.{sets};
-ghost use Rattle.comparing.specs.Search.{rowAt, IsByte, Tells, FirstAt, codesLaid, Searchable, Partial, Searched, Explores};
+ghost use Rattle.comparing.specs.Kinds.{printsAt};
+ghost use Rattle.comparing.specs.Search.{rowAt, IsByte, NextLeader, Tells, FirstAt, FoundAt, codesLaid, stepFrom, Searchable, Partial, Searched, Explores};
+
+// What a step gives: how many rows there are then, or one too many, and which one it led to.
+struct Tried {
+    rows: usize,
+    at: usize,
+}
 
 // Row i.
 pub(crate) fn row_at(words: &[u64], i: usize) -> [u64; 8]
@@ -29,7 +41,7 @@ pub(crate) fn row_at(words: &[u64], i: usize) -> [u64; 8]
 }
 
 // Lays row i down and changes no other word.
-fn put_row(words: &mut [u64], i: usize, row: [u64; 8])
+pub(crate) fn put_row(words: &mut [u64], i: usize, row: [u64; 8])
     requires { ⌜ i * 8 + 8 ≤ length (now words) ⌝ }
     ensures { λ r. ⌜ now (words .exit) ≡ sets (now (words .entry)) (i * 8) row ⌝ }
 {
@@ -58,7 +70,7 @@ fn is_row(words: &[u64], i: usize, row: [u64; 8]) -> bool
 }
 
 // The lowest of n rows that is this one, or n.
-fn find_row(words: &[u64], n: usize, row: [u64; 8]) -> usize
+pub(crate) fn find_row(words: &[u64], n: usize, row: [u64; 8]) -> usize
     requires { ⌜ n * 8 ≤ length (now words) ⌝ }
     ensures { λ r. ⌜ FirstAt (now (words .entry)) n row r ⌝ }
 {
@@ -72,40 +84,119 @@ fn find_row(words: &[u64], n: usize, row: [u64; 8]) -> usize
     n
 }
 
-// The step from row i by byte b, after n rows were found by the steps before it: the number of rows then, or one too many.
-fn try_step(words: &mut [u64], positions: usize, i: usize, b: u8, n: usize) -> usize
+// Which of n rows is this one, or n. A guess is looked at first: most bytes lead where the one before them led.
+fn look_for(words: &[u64], n: usize, row: [u64; 8], guess: usize) -> usize
+    requires { ⌜ n * 8 ≤ length (now words) ⌝ }
+    ensures { λ r. ⌜ FoundAt (now (words .entry)) n row r ⌝ }
+{
+    if guess < n {
+        if is_row(words, guess, row) {
+            return guess;
+        }
+    }
+    find_row(words, n, row)
+}
+
+// The step from row i by byte b, after n rows were found by the steps before it.
+fn try_step(words: &mut [u64], positions: usize, i: usize, b: u8, n: usize, guess: usize) -> Tried
     requires { ⌜ Searchable positions (now words) × (i < n) × IsByte b
         × Partial (codesLaid positions (now words)) (now words) n (i * 128 + b) ⌝ }
-    ensures { λ r. ⌜ Searched positions (now (words .entry)) (now (words .exit)) n (i * 128 + b + 1) r ⌝ }
+    ensures { λ r. ⌜ Searched positions (now (words .entry)) (now (words .exit)) n (i * 128 + b + 1) (r .rows) ⌝ }
 {
     let from = row_at(words, i);
-    let row = next_state(&words[CODES..CODES + positions], b, from);
-    let at = find_row(words, n, row);
+    let taken = (TAKEN_ROW + b as usize) * 8;
+    let used = (positions + 63) / 64;
+    let row = step_words(
+        &words[taken..taken + 8],
+        &words[STARS..STARS + 8],
+        from,
+        used,
+    );
+    let at = look_for(words, n, row, guess);
     if at < n {
-        return n;
+        return Tried { rows: n, at: at };
     }
     if MOST_STATES <= n {
-        return TOO_MANY_STATES;
+        return Tried {
+            rows: TOO_MANY_STATES,
+            at: n,
+        };
     }
     put_row(words, n, row);
     words[KEYS + n] = (i * 128 + b as usize) as u64;
-    n + 1
+    Tried { rows: n + 1, at: n }
 }
 
-// The steps from row i by all bytes, ascending, after n rows were found by those from the rows before it.
+// Whether row i leads by byte b where it leads by another one. It may answer no where it does.
+fn leads_as(words: &[u64], positions: usize, i: usize, last: u8, b: u8) -> bool
+    requires { ⌜ Searchable positions (now words) × IsByte last × IsByte b × (i < 512) ⌝ }
+    ensures { λ r. ⌜ (r ≡ true → stepFrom (codesLaid positions (now (words .entry))) (now (words .entry)) i last
+        ≡ stepFrom (codesLaid positions (now (words .entry))) (now (words .entry)) i b) ⌝ }
+{
+    let from = row_at(words, i);
+    let one = (TAKEN_ROW + last as usize) * 8;
+    let other = (TAKEN_ROW + b as usize) * 8;
+    let used = (positions + 63) / 64;
+    leads_alike(&words[one..one + 8], &words[other..other + 8], from, used)
+}
+
+// The same as try_step. Most bytes lead where the last one tried led: then nothing is left to try. Where none was tried before b, last
+// is not below it.
+fn try_byte(
+    words: &mut [u64],
+    positions: usize,
+    i: usize,
+    last: u8,
+    b: u8,
+    n: usize,
+    guess: usize,
+) -> Tried
+    requires { ⌜ Searchable positions (now words) × (i < n) × IsByte last × IsByte b
+        × Partial (codesLaid positions (now words)) (now words) n (i * 128 + b) ⌝ }
+    ensures { λ r. ⌜ Searched positions (now (words .entry)) (now (words .exit)) n (i * 128 + b + 1) (r .rows) ⌝ }
+{
+    if last < b {
+        if leads_as(words, positions, i, last, b) {
+            return Tried { rows: n, at: guess };
+        }
+    }
+    try_step(words, positions, i, b, n, guess)
+}
+
+// The lowest byte from one on that leads, or the number behind the last byte. The search only asks that none is passed that leads.
+fn next_leader(words: &[u64], from: u8) -> u8
+    requires { ⌜ (printsAt ≤ length (now words)) × (from ≤ 127) ⌝ }
+    ensures { λ r. ⌜ NextLeader (now (words .entry)) from r ⌝ }
+{
+    let mut b = from;
+    while b <= LAST_BYTE {
+        if words[LEADER + b as usize] != 0 {
+            return b;
+        }
+        b += 1;
+    }
+    b
+}
+
+// The steps from row i by all bytes, ascending, after n rows were found by those from the rows before it. A byte that does not lead
+// leads to the same row as a smaller one, so that nothing is left to try.
 fn try_bytes(words: &mut [u64], positions: usize, i: usize, n: usize) -> usize
     requires { ⌜ Searchable positions (now words) × (i < n) × Partial (codesLaid positions (now words)) (now words) n (i * 128) ⌝ }
     ensures { λ r. ⌜ Searched positions (now (words .entry)) (now (words .exit)) n ((i + 1) * 128) r ⌝ }
 {
     let mut found = n;
-    let mut b: u8 = FIRST_BYTE;
+    let mut guess = i;
+    let mut last = LAST_BYTE;
+    let mut b = next_leader(words, FIRST_BYTE);
     while b <= LAST_BYTE {
-        let more = try_step(words, positions, i, b, found);
-        if MOST_STATES < more {
-            return more;
+        let tried = try_byte(words, positions, i, last, b, found, guess);
+        if MOST_STATES < tried.rows {
+            return tried.rows;
         }
-        found = more;
-        b += 1;
+        found = tried.rows;
+        guess = tried.at;
+        last = b;
+        b = next_leader(words, b + 1);
     }
     found
 }

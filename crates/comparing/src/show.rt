@@ -1,14 +1,15 @@
 // The values of a gap: in each column the first value that shows the gap's footprint. The column is explored once more, and the value
 // laid down in its place.
 use crate::answers::Shape;
-use crate::contents::lesser;
-use crate::contents::next_edge;
+use crate::ends::next_edge;
 use crate::explore::row_at;
 use crate::limits::ADDRESSES;
 use crate::limits::FIRST_BYTE;
 use crate::limits::NO_ADDRESS;
 use crate::limits::VALUE_BYTES;
 use crate::limits::VALUE_ROOM;
+use crate::plan::Plans;
+use crate::plan::lay_plans;
 use crate::prints::absent_print;
 use crate::prints::address_print;
 use crate::prints::state_print;
@@ -24,7 +25,8 @@ ghost use Rattle.judging.specs.Judging.{rowsOf};
 ghost use Rattle.comparing.specs.Columns.{valuesIn, Few};
 ghost use Rattle.comparing.specs.Compared.{valueBytes, Uncrowded};
 ghost use Rattle.comparing.specs.Kinds.{printsAt};
-ghost use Rattle.comparing.specs.Survey.{BothRead, Narrow, HasStates};
+ghost use Rattle.comparing.specs.Plan.{TextPlans, AddressPlans};
+ghost use Rattle.comparing.specs.Survey.{BothRead, Narrow, FewNetworks, HasStates};
 ghost use Rattle.comparing.specs.ShownValues.{FirstWith, StartsAt, FoundState, LaidValue, Lays, LaysString, ShowsAddress, RequestWith, LaysGap};
 
 // What is shown of a column of strings: whether it is there, and its length.
@@ -47,18 +49,18 @@ fn find_state(
     column: usize,
     from: usize,
     states: usize,
-    own: usize,
+    plans: Plans,
     size: u64,
     print: u64,
 ) -> usize
-    requires { ⌜ BothRead (now first) (now second) size × HasStates (rowsOf (now first)) (rowsOf (now second)) column (now words) own states
-        × (from ≤ states) × (printsAt ≤ length (now words)) ⌝ }
+    requires { ⌜ BothRead (now first) (now second) size × HasStates (rowsOf (now first)) (rowsOf (now second)) column (now words) states
+        × (from ≤ states) × (printsAt ≤ length (now words)) × TextPlans (now first) (now second) column (now words) plans ⌝ }
     ensures { λ r. ⌜ FoundState (rowsOf (now (first .entry))) (rowsOf (now (second .entry))) column (now (words .entry)) from states print r ⌝ }
 {
     let mut i = from;
     while i < states {
         let row = row_at(words, i);
-        if state_print(row, first, second, column, own, size) == print {
+        if state_print(words, row, first, second, column, plans, size) == print {
             return i;
         }
         i += 1;
@@ -74,17 +76,28 @@ fn show_state(
     column: usize,
     from: usize,
     states: usize,
-    own: usize,
+    plans: Plans,
     size: u64,
     print: u64,
     values: &mut [u8],
 ) -> ShownText
-    requires { ⌜ BothRead (now first) (now second) size × HasStates (rowsOf (now first)) (rowsOf (now second)) column (now words) own states
+    requires { ⌜ BothRead (now first) (now second) size × HasStates (rowsOf (now first)) (rowsOf (now second)) column (now words) states
         × StartsAt (rowsOf (now first) ++ rowsOf (now second)) column from × (column < 7) × (printsAt ≤ length (now words))
-        × (valueBytes ≤ length (now values)) × ((s : List ℕ) × FirstWith (rowsOf (now first)) (rowsOf (now second)) column print (text s)) ⌝ }
+        × (valueBytes ≤ length (now values)) × ((s : List ℕ) × FirstWith (rowsOf (now first)) (rowsOf (now second)) column print (text s))
+        × TextPlans (now first) (now second) column (now words) plans ⌝ }
     ensures { λ r. ⌜ LaysString (rowsOf (now (first .entry))) (rowsOf (now (second .entry))) column print (now (values .entry)) (now (values .exit)) r ⌝ }
 {
-    let i = find_state(words, first, second, column, from, states, own, size, print);
+    let i = find_state(
+        words,
+        first,
+        second,
+        column,
+        from,
+        states,
+        plans,
+        size,
+        print,
+    );
     let length = lay_string(words, i, states, values, column * VALUE_ROOM);
     ShownText {
         present: true,
@@ -121,7 +134,7 @@ fn show_text(
 {
     let found = states_of(words, first, second, column);
     let states = found.states;
-    let own = found.own;
+    let plans = lay_plans(words, first, second, column, true, found.own);
     if column < 3 {
         if found.positions == 0 {
             return show_any(column, values);
@@ -133,7 +146,7 @@ fn show_text(
             column,
             1,
             states,
-            own,
+            plans,
             size,
             print,
             values,
@@ -152,7 +165,7 @@ fn show_text(
         column,
         0,
         states,
-        own,
+        plans,
         size,
         print,
         values,
@@ -160,8 +173,15 @@ fn show_text(
 }
 
 // The first address that shows a footprint, unless absence shows it: only address 0 and the ends of networks can be the first.
-fn show_address(first: &[u8], second: &[u8], size: u64, print: u64) -> ShownAddress
-    requires { ⌜ BothRead (now first) (now second) size ⌝ }
+fn show_address(
+    words: &[u64],
+    first: &[u8],
+    second: &[u8],
+    plans: Plans,
+    size: u64,
+    print: u64,
+) -> ShownAddress
+    requires { ⌜ BothRead (now first) (now second) size × AddressPlans (now first) (now second) (now words) plans × (printsAt ≤ length (now words)) ⌝ }
     ensures { λ r. ⌜ ShowsAddress (rowsOf (now (first .entry))) (rowsOf (now (second .entry))) print r ⌝ }
 {
     if absent_print(first, second, ADDRESSES, size) == print {
@@ -172,14 +192,13 @@ fn show_address(first: &[u8], second: &[u8], size: u64, print: u64) -> ShownAddr
     }
     let mut x: u64 = 0;
     while x < NO_ADDRESS {
-        let address = x as u32;
-        if address_print(first, second, size, address) == print {
+        if address_print(words, first, second, plans, size, x) == print {
             return ShownAddress {
                 present: true,
-                address: address,
+                address: x as u32,
             };
         }
-        x = lesser(next_edge(first, x), next_edge(second, x));
+        x = next_edge(words, first, second, plans, x);
     }
     ShownAddress {
         present: false,
@@ -210,7 +229,8 @@ pub(crate) fn show_gap(
 ) -> Shape
     requires { ⌜ BothRead (now first) (now second) size × ((column : ℕ) → column < 7 → Narrow (rowsOf (now first) ++ rowsOf (now second)) column)
         × Uncrowded (rowsOf (now first) ++ rowsOf (now second)) × (printsAt ≤ length (now words)) × (valueBytes ≤ length (now values))
-        × ((request : List Value) × RequestWith (rowsOf (now first)) (rowsOf (now second)) prints request) ⌝ }
+        × ((request : List Value) × RequestWith (rowsOf (now first)) (rowsOf (now second)) prints request)
+        × FewNetworks (rowsOf (now first) ++ rowsOf (now second)) ⌝ }
     ensures { λ r. ⌜ LaysGap (rowsOf (now (first .entry))) (rowsOf (now (second .entry))) prints (now (values .entry)) (now (values .exit)) r ⌝ }
 {
     clear_values(values);
@@ -221,7 +241,8 @@ pub(crate) fn show_gap(
     let prefix = show_text(words, first, second, 4, size, prints[4], values);
     let vpce = show_text(words, first, second, 5, size, prints[5], values);
     let referer = show_text(words, first, second, 6, size, prints[6], values);
-    let address = show_address(first, second, size, prints[7]);
+    let plans = lay_plans(words, first, second, ADDRESSES, false, 0);
+    let address = show_address(words, first, second, plans, size, prints[7]);
     Shape {
         principal: principal.length,
         action: action.length,

@@ -1,7 +1,6 @@
 // The footprints of every column: which states its strings have, and which rows hold for each; or the column that has too many states.
 use crate::contents::lay_codes;
-use crate::contents::lesser;
-use crate::contents::next_edge;
+use crate::ends::next_edge;
 use crate::explore::explore;
 use crate::explore::row_at;
 use crate::limits::ADDRESSES;
@@ -11,9 +10,13 @@ use crate::limits::MOST_KINDS;
 use crate::limits::MOST_STATES;
 use crate::limits::NO_ADDRESS;
 use crate::limits::PRINTS;
+use crate::limits::TAKEN;
+use crate::plan::Plans;
+use crate::plan::lay_plans;
 use crate::prints::absent_print;
 use crate::prints::address_print;
 use crate::prints::state_print;
+use crate::taken::lay_taken;
 ghost use mathlib.Core.Path.{_≡_};
 ghost use mathlib.Core.List.{_++_};
 ghost use Prim.Native.Nat.{_+_, _-_, _*_, _≤_, _<_, min};
@@ -25,6 +28,7 @@ ghost use Rattle.judging.specs.Judging.{rowsOf};
 ghost use Rattle.comparing.specs.Compared.{mostKinds};
 ghost use Rattle.comparing.specs.Columns.{valuesIn, sumOf};
 ghost use Rattle.comparing.specs.Kinds.{printsAt};
+ghost use Rattle.comparing.specs.Plan.{TextPlans, AddressPlans};
 ghost use Rattle.comparing.specs.Survey.{BothRead, Narrow, FewNetworks, HasRoom, printsBetween, Added, HasStates, RowsAdded, Gathered, FoundStates, SurveyedColumn, Surveyable, Surveyed};
 
 // What surveying a column finds: more than 512 states, or where its footprints end.
@@ -86,17 +90,19 @@ fn gather_rows(
     start: usize,
     row: usize,
     states: usize,
-    own: usize,
+    plans: Plans,
     size: u64,
 ) -> usize
-    requires { ⌜ BothRead (now first) (now second) size × HasStates (rowsOf (now first)) (rowsOf (now second)) column (now words) own states
-        × (row ≤ states) × (from ≤ start) × (printsAt + start + states < length (now words)) ⌝ }
+    requires { ⌜ BothRead (now first) (now second) size × HasStates (rowsOf (now first)) (rowsOf (now second)) column (now words) states
+        × (row ≤ states) × (from ≤ start) × (printsAt + start + states < length (now words))
+        × TextPlans (now first) (now second) column (now words) plans ⌝ }
     ensures { λ r. ⌜ RowsAdded (rowsOf (now (first .entry))) (rowsOf (now (second .entry))) column (now (words .entry)) (now (words .exit)) from start row (states - row) r ⌝ }
 {
     let mut to = start;
     let mut i = row;
     while i < states {
-        let print = state_print(row_at(words, i), first, second, column, own, size);
+        let state = row_at(words, i);
+        let print = state_print(words, state, first, second, column, plans, size);
         to = add_print(words, from, to, print);
         i += 1;
     }
@@ -113,21 +119,19 @@ fn gather_texts(
     from: usize,
     states: usize,
     positions: usize,
-    own: usize,
+    plans: Plans,
     size: u64,
 ) -> usize
-    requires { ⌜ BothRead (now first) (now second) size × HasStates (rowsOf (now first)) (rowsOf (now second)) column (now words) own states
-        × (positions ≡ sumOf (valuesIn column (rowsOf (now first) ++ rowsOf (now second)))) × (column < 7) × HasRoom (now words) from ⌝ }
+    requires { ⌜ BothRead (now first) (now second) size × HasStates (rowsOf (now first)) (rowsOf (now second)) column (now words) states
+        × (positions ≡ sumOf (valuesIn column (rowsOf (now first) ++ rowsOf (now second)))) × (column < 7) × HasRoom (now words) from
+        × TextPlans (now first) (now second) column (now words) plans ⌝ }
     ensures { λ r. ⌜ Gathered (rowsOf (now (first .entry))) (rowsOf (now (second .entry))) column (now (words .entry)) (now (words .exit)) from r ⌝ }
 {
     if column < 3 {
         if positions == 0 {
-            return add_print(
-                words,
-                from,
-                from,
-                state_print(row_at(words, 0), first, second, column, own, size),
-            );
+            let state = row_at(words, 0);
+            let print = state_print(words, state, first, second, column, plans, size);
+            return add_print(words, from, from, print);
         }
         return gather_rows(
             words,
@@ -138,7 +142,7 @@ fn gather_texts(
             from,
             1,
             states,
-            own,
+            plans,
             size,
         );
     }
@@ -152,14 +156,22 @@ fn gather_texts(
         start,
         0,
         states,
-        own,
+        plans,
         size,
     )
 }
 
 // The footprints of column 7: absent, then address 0 and each address where a network begins or has just ended.
-fn gather_addresses(words: &mut [u64], first: &[u8], second: &[u8], from: usize, size: u64) -> usize
-    requires { ⌜ BothRead (now first) (now second) size × FewNetworks (rowsOf (now first) ++ rowsOf (now second)) × HasRoom (now words) from ⌝ }
+fn gather_addresses(
+    words: &mut [u64],
+    first: &[u8],
+    second: &[u8],
+    from: usize,
+    plans: Plans,
+    size: u64,
+) -> usize
+    requires { ⌜ BothRead (now first) (now second) size × FewNetworks (rowsOf (now first) ++ rowsOf (now second)) × HasRoom (now words) from
+        × AddressPlans (now first) (now second) (now words) plans ⌝ }
     ensures { λ r. ⌜ Gathered (rowsOf (now (first .entry))) (rowsOf (now (second .entry))) 7 (now (words .entry)) (now (words .exit)) from r ⌝ }
 {
     let mut to = add_print(
@@ -170,9 +182,9 @@ fn gather_addresses(words: &mut [u64], first: &[u8], second: &[u8], from: usize,
     );
     let mut x: u64 = 0;
     while x < NO_ADDRESS {
-        let print = address_print(first, second, size, x as u32);
+        let print = address_print(words, first, second, plans, size, x);
         to = add_print(words, from, to, print);
-        x = lesser(next_edge(first, x), next_edge(second, x));
+        x = next_edge(words, first, second, plans, x);
     }
     to
 }
@@ -182,8 +194,9 @@ pub(crate) fn states_of(words: &mut [u64], first: &[u8], second: &[u8], column: 
     requires { ⌜ Accepted (entriesOf (now first)) × Accepted (entriesOf (now second)) × Narrow (rowsOf (now first) ++ rowsOf (now second)) column × (printsAt ≤ length (now words)) ⌝ }
     ensures { λ r. ⌜ FoundStates (rowsOf (now (first .entry))) (rowsOf (now (second .entry))) column (now (words .entry)) (now (words .exit)) r ⌝ }
 {
-    let own = lay_codes(&mut words[CODES..PRINTS], 0, first, column);
-    let positions = lay_codes(&mut words[CODES..PRINTS], own, second, column);
+    let own = lay_codes(&mut words[CODES..TAKEN], 0, first, column);
+    let positions = lay_codes(&mut words[CODES..TAKEN], own, second, column);
+    lay_taken(words, positions);
     let states = explore(words, positions);
     States {
         own: own,
@@ -206,12 +219,14 @@ fn survey_column(
     ensures { λ r. ⌜ SurveyedColumn (rowsOf (now (first .entry))) (rowsOf (now (second .entry))) column (now (words .entry)) (now (words .exit)) from r ⌝ }
 {
     if column == ADDRESSES {
-        return Column::Within(gather_addresses(words, first, second, from, size));
+        let networks = lay_plans(words, first, second, ADDRESSES, false, 0);
+        return Column::Within(gather_addresses(words, first, second, from, networks, size));
     }
     let found = states_of(words, first, second, column);
     if MOST_STATES < found.states {
         return Column::Crowded;
     }
+    let plans = lay_plans(words, first, second, column, true, found.own);
     Column::Within(gather_texts(
         words,
         first,
@@ -220,7 +235,7 @@ fn survey_column(
         from,
         found.states,
         found.positions,
-        found.own,
+        plans,
         size,
     ))
 }

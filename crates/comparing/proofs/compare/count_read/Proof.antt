@@ -20,7 +20,7 @@ use Rattle.comparing.proofs.compare.count_read.Reads as reads
 use Rattle.comparing.proofs.compare.count_read.Lts as lts
 use Rattle.comparing.proofs.compare.first_wide.Reads as first-wide-reads
 use Rattle.comparing.proofs.compare.sides_of.Reads as sides-of-reads
-use Rattle.comparing.proofs.kinds.count.Reads as count-reads
+use Rattle.comparing.proofs.kinds.count_gaps.Reads as count-gaps-reads
 use Rattle.comparing.proofs.survey.survey.Reads as survey-reads
 
 module _ (c : tie.After-sides-of) where
@@ -85,10 +85,10 @@ returns-3 c =
 sides-of-requires : tie.Need-sides-of-requires
 sides-of-requires c κs = search needs
 
-count-requires : tie.Need-count-requires
-count-requires c κs =
+count-gaps-requires : tie.Need-count-gaps-requires
+count-gaps-requires c κs =
     let s = c .before in
-    (listed s .bounded refl, omega (arith, s .sides-of .ensures .size, c .before .before .before .before .before .before .before .before .before .before .before .before .before .before .pre .0 .few), omega arith, counts s)
+    (listed s .bounded refl, omega (arith, s .sides-of .ensures .size, c .before .before .before .before .before .before .before .before .before .before .before .before .before .before .pre .0 .few), counts s)
 
 same-length-3 : tie.Need-same-length-3
 same-length-3 c = search needs
@@ -97,7 +97,7 @@ returns-4 : tie.Need-returns-4
 returns-4 c =
     let s = c .before .before in
     answer-yes C.Refused IsCount (one s) (two s) _ (narrow s) (words s) (bounds s) (listed s)
-    (countOf (s .sides-of .result) (printsIn (words s) (bounds s) 0) (2 ^ 64 - 1), counts-gaps (one s) (two s) (s .sides-of .result) (s .sides-of .ensures) (words s) (bounds s) (listed s) (few s), ap C.Gaps (c .count .ensures))
+    (countOf (s .sides-of .result) (printsIn (words s) (bounds s) 0) (2 ^ 64 - 1), counts-gaps (one s) (two s) (s .sides-of .result) (s .sides-of .ensures) (words s) (bounds s) (listed s) (few s), ap C.Gaps (c .count-gaps .ensures))
 
 pub count-read-spec : {M : Type 1} → statement M
 count-read-spec =
@@ -111,6 +111,6 @@ count-read-spec =
     same-length-2
     returns-3
     sides-of-requires
-    count-requires
+    count-gaps-requires
     same-length-3
     returns-4)

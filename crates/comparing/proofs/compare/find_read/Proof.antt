@@ -15,14 +15,6 @@ use Rattle.comparing.proofs.Answering.{answer-wide, answer-crowded, ans
 use borrow.Author.Needs.{needs}
 use Rattle.comparing.proofs.compare.find_read.Statement.{statement}
 use Rattle.comparing.proofs.compare.find_read.Tie as tie
-use Rattle.comparing.proofs.compare.find_read.Reads as reads
-use Rattle.comparing.proofs.compare.find_read.Lts as lts
-use Rattle.comparing.proofs.compare.first_wide.Reads as first-wide-reads
-use Rattle.comparing.proofs.compare.sides_of.Reads as sides-of-reads
-use Rattle.comparing.proofs.kinds.count.Reads as count-reads
-use Rattle.comparing.proofs.kinds.gap_prints.Reads as gap-prints-reads
-use Rattle.comparing.proofs.show.show_gap.Reads as show-gap-reads
-use Rattle.comparing.proofs.survey.survey.Reads as survey-reads
 
 module _ (c : tie.After-sides-of) where
   abbrev one : List Statement
@@ -86,10 +78,10 @@ returns-3 c =
 sides-of-requires : tie.Need-sides-of-requires
 sides-of-requires c κs = search needs
 
-count-requires : tie.Need-count-requires
-count-requires c κs =
+count-gaps-requires : tie.Need-count-gaps-requires
+count-gaps-requires c κs =
     let s = c .before in
-    (listed s .bounded refl, omega (arith, s .sides-of .ensures .size, c .before .before .before .before .before .before .before .before .before .before .before .before .before .before .before .pre .0 .few), omega arith, counts s)
+    (listed s .bounded refl, omega (arith, s .sides-of .ensures .size, c .before .before .before .before .before .before .before .before .before .before .before .before .before .before .before .pre .0 .few), counts s)
 
 same-length-3 : tie.Need-same-length-3
 same-length-3 c = search needs
@@ -99,7 +91,7 @@ returns-4 c =
     let a = c .before .before .before .before .before .before .before .before .before .before .before .before .before .before .before .before .before .args in
     let s = c .before .before .before in
     answer-yes (keeps (a .values .now)) (IsAnswer (a .k) (a .values .now)) (one s) (two s) _ (narrow s) (words s) (bounds s) (listed s)
-    (answer-none (one s) (two s) (s .sides-of .result) (s .sides-of .ensures) (words s) (bounds s) (listed s) (few s) (a .k) (omega (arith, c .before .count .ensures, c .if4 .taken)) (a .values .now))
+    (answer-none (one s) (two s) (s .sides-of .result) (s .sides-of .ensures) (words s) (bounds s) (listed s) (few s) (a .k) (omega (arith, c .before .count-gaps .ensures, c .if4 .taken)) (a .values .now))
 
 gap-prints-requires : tie.Need-gap-prints-requires
 gap-prints-requires c κs =
@@ -116,7 +108,8 @@ show-gap-requires c κs =
       listed s .uncrowded,
       omega (arith, h .1, c .before .before .before .before .before .before .before .before .before .before .before .before .before .survey .kept .0),
       h .2,
-      shows-gap (one s) (two s) (s .sides-of .result) (s .sides-of .ensures) (words s) (bounds s) (listed s) (few s) (a .k) (omega (arith, c .before .before .before .before .before .count .ensures, c .before .before .before .before .if4 .left)) (c .before .before .gap-prints .result) (c .before .before .gap-prints .ensures),
+      shows-gap (one s) (two s) (s .sides-of .result) (s .sides-of .ensures) (words s) (bounds s) (listed s) (few s) (a .k) (omega (arith, c .before .before .before .before .before .count-gaps .ensures, c .before .before .before .before .if4 .left)) (c .before .before .gap-prints .result) (c .before .before .gap-prints .ensures),
+      not-wide (one s ++ two s) (a .words .now) (narrow s) (h .1) .networks,
     )
 
 same-length-4 : tie.Need-same-length-4
@@ -131,7 +124,7 @@ returns-5 c =
     let s = c .before .before .before .before .before .before .before .before .before .before .before .before in
     let shown = c .before .before .before .before .show-gap in
     answer-yes (keeps (a .values .now)) (IsAnswer (a .k) (a .values .now)) (one s) (two s) _ (narrow s) (words s) (bounds s) (listed s)
-    (answer-shown (one s) (two s) (s .sides-of .result) (s .sides-of .ensures) (words s) (bounds s) (listed s) (few s) (a .k) (omega (arith, c .before .before .before .before .before .before .before .before .before .before .count .ensures, c .before .before .before .before .before .before .before .before .before .if4 .left)) (c .before .before .before .before .before .before .before .gap-prints .result) (c .before .before .before .before .before .before .before .gap-prints .ensures)
+    (answer-shown (one s) (two s) (s .sides-of .result) (s .sides-of .ensures) (words s) (bounds s) (listed s) (few s) (a .k) (omega (arith, c .before .before .before .before .before .before .before .before .before .before .count-gaps .ensures, c .before .before .before .before .before .before .before .before .before .if4 .left)) (c .before .before .before .before .before .before .before .gap-prints .result) (c .before .before .before .before .before .before .before .gap-prints .ensures)
     (a .values .now) (shown .last .1 .1 .1 .1 .1 .0) (shown .result) (shown .ensures))
 
 pub find-read-spec : {M : Type 1} → statement M
@@ -146,7 +139,7 @@ find-read-spec =
     same-length-2
     returns-3
     sides-of-requires
-    count-requires
+    count-gaps-requires
     same-length-3
     returns-4
     gap-prints-requires

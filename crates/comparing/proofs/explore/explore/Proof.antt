@@ -9,6 +9,7 @@ use Rattle.matching.specs.Rows.{firstRow}
 use Rattle.comparing.specs.Search.{codesAt, codesLaid, rowAt, Partial}
 use Rattle.comparing.proofs.RowsInWords.{row-laid, behind-kept}
 use Rattle.comparing.proofs.Stepping.{search-begins, search-goes-on, search-ends, first-length}
+use Rattle.comparing.proofs.TakenRows.{searchable-stays}
 use borrow.Author.Needs.{needs}
 use Rattle.comparing.proofs.explore.explore.Statement.{statement}
 use Rattle.comparing.proofs.explore.explore.Tie as tie
@@ -73,7 +74,8 @@ try-bytes-requires c κs =
     let l = c .before .before .loop in
     let a = c .before .before .before .before .before .before .before .before .before .before .before .args in
     let h = c .before .before .before .before .before .before .before .before .before .before .before .pre in (
-      record { most = h .most; room = omega (arith, h .room, c .before .before .before .before .before .put-row .kept .0) },
+      searchable-stays (a .words .now) (l .words) (l .inv .2 ∙ stay (c .before .before .before .before .before)) (a .positions)
+          (l .inv .1 ∙ c .before .before .before .before .before .put-row .kept .0) h,
       omega arith,
       subst (λ (codes : List ℕ). Partial codes (l .words) (l .n) (l .row * 128)) (sym (ap (take (a .positions)) (l .inv .2))) (l .inv .3),
     )

@@ -1,67 +1,93 @@
 -- The row that the step leads to is looked for among those that were found; where it is new it goes behind them.
-use Prim.Native.Nat.{ℕ, _+_, _-_, _*_, _<_}
+use Prim.Native.Nat.{ℕ, _+_, _-_, _*_, _/_, _<_}
 use mathlib.Core.Path.{_≡_, refl, sym, ap, ap₂, _∙_, subst}
 use mathlib.Core.List.{List}
 use mathlib.Core.Logic.{inl, inr}
 use native.Mathlib.Numerals.{add-one}
 use native.Mathlib.Omega.{arith}
 use lib.ListN.{length, take, drop, set}
-use Rattle.matching.specs.Rows.{stepRow}
-use Rattle.comparing.specs.Search.{mostStates, keysAt, codesAt, codesLaid, rowAt, stepFrom, Partial}
+use Rattle.matching.specs.Words.{wordsRow}
+use Rattle.comparing.specs.Search.{mostStates, keysAt, codesAt, codesLaid, rowAt, starsLaid, stepFrom, Partial}
 use Rattle.comparing.proofs.RowsInWords.{withRow, with-kept}
 use Rattle.comparing.proofs.Stepping.{step-known, step-over, step-new, step-length}
+use Rattle.comparing.proofs.TakenRows.{step-leads}
 use borrow.Author.Needs.{needs}
 use Rattle.comparing.proofs.explore.try_step.Statement.{statement}
 use Rattle.comparing.proofs.explore.try_step.Tie as tie
 
 -- the row that the step leads to
-leads : (c : tie.After-next-state) → c .next-state .result
-    ≡ stepFrom (codesLaid (c .before .before .before .before .before .before .args .positions) (c .before .before .before .before .before .before .args .words .now))
-    (c .before .before .before .before .before .before .args .words .now) (c .before .before .before .before .before .before .args .i) (c .before .before .before .before .before .before .args .b)
+leads : (c : tie.After-step-words) → c .step-words .result
+    ≡ stepFrom (codesLaid (c .before .before .before .before .before .before .before .args .positions) (c .before .before .before .before .before .before .before .args .words .now)) (c .before .before .before .before .before .before .before .args .words .now) (c .before .before .before .before .before .before .before .args .i) (c .before .before .before .before .before .before .before .args .b)
 leads c =
-    let a = c .before .before .before .before .before .before .args in
+    let a = c .before .before .before .before .before .before .before .args in
+    let h = c .before .before .before .before .before .before .before .pre in
     let words = a .words .now in
-    c .next-state .ensures
-    ∙ ap₂ (λ (codes : List ℕ) (row : List ℕ). stepRow codes (a .b) row)
-    (ap (λ (k : ℕ). take k (drop codesAt words)) {x = codesAt + a .positions - codesAt} {y = a .positions} (omega arith))
-    (c .before .before .before .row-at .ensures)
+    let at = (607 + a .b) * 8 in
+    c .step-words .ensures
+    ∙ ap₂ (λ (n : ℕ) (row : List ℕ). wordsRow ((a .positions + 63) / 64) (take n (drop at words)) (starsLaid words) row)
+    {x = at + 8 - at} {y = 8} (omega arith) (c .before .before .before .before .row-at .ensures)
+    ∙ step-leads (a .positions) words (h .0) (a .i) (a .b) (h .2)
 
 row-at-requires : tie.Need-row-at-requires
 row-at-requires c κs = search needs
 
-add-next-state : tie.Need-add-next-state
-add-next-state c = search needs
+add-taken : tie.Need-add-taken
+add-taken c = search needs
 
-sub-next-state : tie.Need-sub-next-state
-sub-next-state c = search needs
+mul-taken : tie.Need-mul-taken
+mul-taken c = search needs
 
-part-next-state-start : tie.Need-part-next-state-start
-part-next-state-start c = search needs
+add-used : tie.Need-add-used
+add-used c = search needs
 
-part-next-state-end : tie.Need-part-next-state-end
-part-next-state-end c = search needs
+add-step-words : tie.Need-add-step-words
+add-step-words c = search needs
 
-next-state-requires : tie.Need-next-state-requires
-next-state-requires c κs = search needs
+mul-step-words : tie.Need-mul-step-words
+mul-step-words c = search needs
 
-find-row-requires : tie.Need-find-row-requires
-find-row-requires c κs = search needs
+sub-step-words : tie.Need-sub-step-words
+sub-step-words c = search needs
+
+part-step-words-start : tie.Need-part-step-words-start
+part-step-words-start c = search needs
+
+part-step-words-end : tie.Need-part-step-words-end
+part-step-words-end c = search needs
+
+add-step-words-2 : tie.Need-add-step-words-2
+add-step-words-2 c = search needs
+
+sub-step-words-2 : tie.Need-sub-step-words-2
+sub-step-words-2 c = search needs
+
+part-step-words-start-2 : tie.Need-part-step-words-start-2
+part-step-words-start-2 c = search needs
+
+part-step-words-end-2 : tie.Need-part-step-words-end-2
+part-step-words-end-2 c = search needs
+
+step-words-requires : tie.Need-step-words-requires
+step-words-requires c κs = search needs
+
+look-for-requires : tie.Need-look-for-requires
+look-for-requires c κs = search needs
 
 same-length : tie.Need-same-length
 same-length c = search needs
 
 returns : tie.Need-returns
 returns c =
-    let a = c .before .before .before .before .before .before .before .before .before .args in
-    let h = c .before .before .before .before .before .before .before .before .before .pre in
+    let a = c .before .before .before .before .before .before .before .before .before .before .args in
+    let h = c .before .before .before .before .before .before .before .before .before .before .pre in
     let words = a .words .now in
     let codes = codesLaid (a .positions) words in
     let row = leads (c .before .before .before) in
-    let found = c .before .find-row .ensures in
+    let found = c .before .look-for .ensures in
     record {
       kept = refl;
       more = omega arith;
-      answer = inl (h .3 .few, step-known codes words (a .n) (a .i) (a .b) (h .3) (h .1) (h .2) (c .before .find-row .result) (c .if1 .taken) (found .here (c .if1 .taken) ∙ row));
+      answer = inl (h .3 .few, step-known codes words (a .n) (a .i) (a .b) (h .3) (h .1) (h .2) (c .before .look-for .result) (c .if1 .taken) (found .here (c .if1 .taken) ∙ row));
     }
 
 same-length-2 : tie.Need-same-length-2
@@ -69,16 +95,16 @@ same-length-2 c = search needs
 
 returns-2 : tie.Need-returns-2
 returns-2 c =
-    let a = c .before .before .before .before .before .before .before .before .before .before .args in
-    let h = c .before .before .before .before .before .before .before .before .before .before .pre in
+    let a = c .before .before .before .before .before .before .before .before .before .before .before .args in
+    let h = c .before .before .before .before .before .before .before .before .before .before .before .pre in
     let words = a .words .now in
     let codes = codesLaid (a .positions) words in
     let row = leads (c .before .before .before .before) in
-    let found = c .before .before .find-row .ensures in
+    let found = c .before .before .look-for .ensures in
     record {
       kept = refl;
       more = omega (arith, h .3 .few);
-      answer = inr (refl, step-over codes words (a .n) (a .i) (a .b) (h .3) (h .1) (h .2) (omega arith) (λ j l same. found .before j (omega arith) (same ∙ sym row)));
+      answer = inr (refl, step-over codes words (a .n) (a .i) (a .b) (h .3) (h .1) (h .2) (omega arith) (λ j l same. found .none (omega arith) j l (same ∙ sym row)));
     }
 
 put-row-requires : tie.Need-put-row-requires
@@ -99,33 +125,33 @@ mul-words-2 c = search needs
 slice-write-words : tie.Need-slice-write-words
 slice-write-words c = search needs
 
-add-result : tie.Need-add-result
-add-result c = search needs
+add-t15 : tie.Need-add-t15
+add-t15 c = search needs
 
 same-length-3 : tie.Need-same-length-3
 same-length-3 c = search needs
 
 returns-3 : tie.Need-returns-3
 returns-3 c =
-    let a = c .before .before .before .before .before .before .before .before .before .before .before .before .before .before .args in
-    let h = c .before .before .before .before .before .before .before .before .before .before .before .before .before .before .pre in
+    let a = c .before .before .before .before .before .before .before .before .before .before .before .before .before .before .before .args in
+    let h = c .before .before .before .before .before .before .before .before .before .before .before .before .before .before .before .pre in
     let words = a .words .now in
     let codes = codesLaid (a .positions) words in
     let row = leads (c .before .before .before .before .before .before .before .before) in
-    let found = c .before .before .before .before .before .before .find-row .ensures in
-    let result = c .before .before .before .before .before .before .before .before .next-state .result in
+    let found = c .before .before .before .before .before .before .look-for .ensures in
+    let result = c .before .before .before .before .before .before .before .before .step-words .result in
     let eight : length result ≡ 8 = ap length row ∙ step-length codes (a .b) (rowAt words (a .i)) in
     let space : a .n < mostStates = omega arith in
     let laid = ap (λ (l : List ℕ). set l (keysAt + a .n) (a .i * 128 + a .b)) (c .before .before .put-row .ensures) in
     record {
-      kept = ap (drop codesAt) laid ∙ with-kept words (a .n) result (a .i * 128 + a .b) eight space (h .0 .room);
+      kept = ap (drop codesAt) laid ∙ with-kept words (a .n) result (a .i * 128 + a .b) eight space (omega (arith, h .0 .room));
       more = omega arith;
       answer =
           inl (
             omega arith,
             subst (λ (l : List ℕ). Partial codes l (a .n + 1) (a .i * 128 + a .b + 1)) (sym laid)
                 (subst (λ (m : ℕ). Partial codes (withRow words (a .n) result (a .i * 128 + a .b)) m (a .i * 128 + a .b + 1)) (sym (add-one (a .n)))
-                (step-new codes words (a .n) (a .i) (a .b) (h .3) (h .1) (h .2) result row eight space (h .0 .room) (λ j l. found .before j (omega arith)))),
+                (step-new codes words (a .n) (a .i) (a .b) (h .3) (h .1) (h .2) result row eight space (omega (arith, h .0 .room)) (λ j l. found .none (omega arith) j l))),
           );
     }
 
@@ -134,12 +160,20 @@ try-step-spec =
     tie.close
     (tie.spec
     row-at-requires
-    add-next-state
-    sub-next-state
-    part-next-state-start
-    part-next-state-end
-    next-state-requires
-    find-row-requires
+    add-taken
+    mul-taken
+    add-used
+    add-step-words
+    mul-step-words
+    sub-step-words
+    part-step-words-start
+    part-step-words-end
+    add-step-words-2
+    sub-step-words-2
+    part-step-words-start-2
+    part-step-words-end-2
+    step-words-requires
+    look-for-requires
     same-length
     returns
     same-length-2
@@ -150,6 +184,6 @@ try-step-spec =
     add-words-2
     mul-words-2
     slice-write-words
-    add-result
+    add-t15
     same-length-3
     returns-3)

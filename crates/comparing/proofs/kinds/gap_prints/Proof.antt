@@ -14,17 +14,23 @@ use Rattle.comparing.proofs.kinds.gap_prints.Statement.{statement}
 use Rattle.comparing.proofs.kinds.gap_prints.Tie as tie
 
 abbrev Inv-loop : tie.InvT-loop
-Inv-loop words sides k bounds prints₀ rows₀ left₀ column₀ prints rows left column =
+Inv-loop words sides k bounds meets kinds prints₀ rows₀ left₀ column₀ prints rows left column =
     (column ≤ 8)
     × (product (map length (printsIn words bounds column)) ≤ mostKinds)
     × Laid (printsAlong sides (printsIn words bounds 0) (2 ^ 64 - 1) k) prints (printsAlong sides (printsIn words bounds column) rows left) column
 
 abbrev μ-loop : tie.MeasureT-loop
-μ-loop words sides k bounds prints₀ rows₀ left₀ column₀ prints rows left column = 8 - column
+μ-loop words sides k bounds meets kinds prints₀ rows₀ left₀ column₀ prints rows left column = 8 - column
+
+meets-of-requires : tie.Need-meets-of-requires Inv-loop μ-loop
+meets-of-requires c κs = search needs
+
+kinds-of-requires : tie.Need-kinds-of-requires Inv-loop μ-loop
+kinds-of-requires c κs = c .before .before .pre .0 .ascends
 
 loop-holds : tie.Need-loop-holds Inv-loop μ-loop
 loop-holds c =
-    (omega arith, c .before .pre .2, record { size = refl; zeros = refl; joined = refl })
+    (omega arith, c .before .before .before .pre .2, record { size = refl; zeros = refl; joined = refl })
 
 mul-from : tie.Need-mul-from Inv-loop μ-loop
 mul-from c = search needs
@@ -43,7 +49,7 @@ array-read-to c = search needs
 
 returns : tie.Need-returns Inv-loop μ-loop
 returns c =
-    let start = c .before .before .before .before in
+    let start = c .before .before .before .before .before .before in
     let now = c .before .before .loop in
     laid-done (now .inv .2)
     (along-empty (start .args .sides) (start .args .words .now) (start .args .t2) (now .column) (now .rows) (now .left)
@@ -51,9 +57,9 @@ returns c =
 
 step-to-requires : tie.Need-step-to-requires Inv-loop μ-loop
 step-to-requires c κs =
-    let start = c .before .before .before .before in
+    let start = c .before .before .before .before .before .before in
     let now = c .before .before .loop in
-    (start .pre .0, start .pre .1, c .before .loop-test .taken, now .inv .1)
+    (start .pre .0, c .before .before .before .before .meets-of .ensures, c .before .before .before .kinds-of .ensures, start .pre .1, c .before .loop-test .taken, now .inv .1)
 
 mul-prints : tie.Need-mul-prints Inv-loop μ-loop
 mul-prints c = search needs
@@ -69,7 +75,7 @@ loop-less c = search needs
 
 loop-again : tie.Need-loop-again Inv-loop μ-loop
 loop-again c =
-    let start = c .before .before .before .before .before .before in
+    let start = c .before .before .before .before .before .before .before .before in
     let now = c .before .before .before .before .loop in
     let low : now .column < 8 = c .before .before .before .loop-test .taken in (
       omega arith,
@@ -82,7 +88,7 @@ loop-again c =
 
 returns-2 : tie.Need-returns-2 Inv-loop μ-loop
 returns-2 c =
-    let start = c .before .before .before in
+    let start = c .before .before .before .before .before in
     let now = c .before .loop in
     laid-done (now .inv .2)
     (along-end (start .args .sides) (start .args .words .now) (start .args .t2) (now .column) (now .rows) (now .left) (c .loop-test .left))
@@ -93,6 +99,8 @@ gap-prints-spec =
     (tie.spec
     Inv-loop
     μ-loop
+    meets-of-requires
+    kinds-of-requires
     loop-holds
     mul-from
     array-read-from

@@ -4,18 +4,18 @@ use Prim.Native.Nat.{ℕ, _+_, _-_, _≤_, _<_}
 use mathlib.Core.Path.{_≡_, sym, _∙_, ap}
 use native.Mathlib.Omega.{arith}
 use lib.ListN.{length}
-use Rattle.comparing.specs.Kinds.{stepOf, printsIn}
+use Rattle.comparing.specs.Kinds.{stepOf, printsAt, printsIn}
 use Rattle.comparing.proofs.KindsInWords.{up, next-within, fewer-kinds, stepLeft, step-start, step-here, step-on, step-done}
 use borrow.Author.Needs.{needs}
 use Rattle.comparing.proofs.kinds.step_to.Statement.{statement}
 use Rattle.comparing.proofs.kinds.step_to.Tie as tie
 
 abbrev Inv-loop : tie.InvT-loop
-Inv-loop words sides column rows k bounds from to i₀ left₀ i left =
+Inv-loop words meets kinds sides column rows k bounds from to i₀ left₀ i left =
     (from ≤ i) × (i ≤ to) × (stepLeft sides words bounds column rows i left ≡ stepOf sides (printsIn words bounds column) rows k)
 
 abbrev μ-loop : tie.MeasureT-loop
-μ-loop words sides column rows k bounds from to i₀ left₀ i left = to - i
+μ-loop words meets kinds sides column rows k bounds from to i₀ left₀ i left = to - i
 
 mul-from : tie.Need-mul-from Inv-loop μ-loop
 mul-from c = search needs
@@ -36,26 +36,26 @@ loop-holds : tie.Need-loop-holds Inv-loop μ-loop
 loop-holds c =
     let start = c .before in (
       omega arith,
-      up (start .pre .0) (start .args .column) (start .pre .2),
-      step-start (start .args .sides) (start .pre .0) (start .args .column) (start .pre .2) (start .args .rows) (start .args .k),
+      up (start .pre .0) (start .args .column) (start .pre .4),
+      step-start (start .args .sides) (start .pre .0) (start .args .column) (start .pre .4) (start .args .rows) (start .args .k),
     )
 
 add-print : tie.Need-add-print Inv-loop μ-loop
 add-print c =
     let start = c .before .before .before in
-    omega (arith, next-within (start .pre .0) (start .args .column) (start .pre .2))
+    omega (arith, next-within (start .pre .0) (start .args .column) (start .pre .4))
 
 mul-print : tie.Need-mul-print Inv-loop μ-loop
 mul-print c =
     let start = c .before .before .before in
-    let inside : 5120 + c .before .loop .i < length (start .args .words .now) =
-    omega (arith, next-within (start .pre .0) (start .args .column) (start .pre .2)) in
+    let inside : printsAt + c .before .loop .i < length (start .args .words .now) =
+    omega (arith, next-within (start .pre .0) (start .args .column) (start .pre .4)) in
     search needs
 
 shared-slice-read-print : tie.Need-shared-slice-read-print Inv-loop μ-loop
 shared-slice-read-print c =
     let start = c .before .before .before .before in
-    omega (arith, next-within (start .pre .0) (start .args .column) (start .pre .2))
+    omega (arith, next-within (start .pre .0) (start .args .column) (start .pre .4))
 
 add-count : tie.Need-add-count Inv-loop μ-loop
 add-count c = search needs
@@ -63,20 +63,20 @@ add-count c = search needs
 count-requires : tie.Need-count-requires Inv-loop μ-loop
 count-requires c κs =
     let start = c .before .before .before .before in
-    (start .pre .0, start .pre .1, omega arith, fewer-kinds (start .pre .0) (start .args .column) (start .pre .2) (omega arith) (start .pre .3))
+    (start .pre .0, start .pre .1, start .pre .2, start .pre .3, omega arith, fewer-kinds (start .pre .0) (start .args .column) (start .pre .4) (omega arith) (start .pre .5))
 
 returns : tie.Need-returns Inv-loop μ-loop
 returns c =
     let start = c .before .before .before .before .before .before in
     let now = c .before .before .before .before .loop in
-    sym (step-here (start .args .sides) (start .pre .0) (start .args .column) (start .pre .2) (start .args .rows) (now .i)
+    sym (step-here (start .args .sides) (start .pre .0) (start .args .column) (start .pre .4) (start .args .rows) (now .i)
     (omega arith) (omega arith) (now .left) (omega (arith, c .before .count .ensures)))
     ∙ now .inv .2
 
 add-i : tie.Need-add-i Inv-loop μ-loop
 add-i c =
     let start = c .before .before .before .before .before .before in
-    omega (arith, next-within (start .pre .0) (start .args .column) (start .pre .2))
+    omega (arith, next-within (start .pre .0) (start .args .column) (start .pre .4))
 
 loop-less : tie.Need-loop-less Inv-loop μ-loop
 loop-less c = omega arith
@@ -89,7 +89,7 @@ loop-again c =
       omega arith,
       ap (λ (n : ℕ). stepLeft (start .args .sides) (start .args .words .now) (start .args .t2) (start .args .column) (start .args .rows)
           (now .i + 1) (now .left - n)) (c .before .count .ensures)
-          ∙ sym (step-on (start .args .sides) (start .pre .0) (start .args .column) (start .pre .2) (start .args .rows) (now .i)
+          ∙ sym (step-on (start .args .sides) (start .pre .0) (start .args .column) (start .pre .4) (start .args .rows) (now .i)
           (omega arith) (omega arith) (now .left) (omega (arith, c .before .count .ensures)))
           ∙ now .inv .2,
     )
@@ -98,7 +98,7 @@ returns-2 : tie.Need-returns-2 Inv-loop μ-loop
 returns-2 c =
     let start = c .before .before .before in
     let now = c .before .loop in
-    sym (step-done (start .args .sides) (start .pre .0) (start .args .column) (start .pre .2) (start .args .rows) (now .i) (now .left)
+    sym (step-done (start .args .sides) (start .pre .0) (start .args .column) (start .pre .4) (start .args .rows) (now .i) (now .left)
     (c .loop-test .left))
     ∙ now .inv .2
 

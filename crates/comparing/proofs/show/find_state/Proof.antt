@@ -14,18 +14,14 @@ use Rattle.comparing.proofs.FirstFound.{none-next}
 use borrow.Author.Needs.{needs}
 use Rattle.comparing.proofs.show.find_state.Statement.{statement}
 use Rattle.comparing.proofs.show.find_state.Tie as tie
-use Rattle.comparing.proofs.show.find_state.Reads as reads
-use Rattle.comparing.proofs.show.find_state.Lts as lts
-use Rattle.comparing.proofs.explore.row_at.Reads as row-at-reads
-use Rattle.comparing.proofs.prints.state_print.Reads as state-print-reads
 
 abbrev Inv-loop : tie.InvT-loop
-Inv-loop words first second column from states own size print i₀ i =
+Inv-loop words first second column from states plans size print i₀ i =
     (from ≤ i) × (i ≤ states)
     × ((j : ℕ) → from ≤ j → j < i → printOf (rowsOf first) (rowsOf second) column (text (stringOf words j)) ≡ print → ⊥)
 
 abbrev μ-loop : tie.MeasureT-loop
-μ-loop words first second column from states own size print i₀ i = states - i
+μ-loop words first second column from states plans size print i₀ i = states - i
 
 loop-holds : tie.Need-loop-holds Inv-loop μ-loop
 loop-holds c = (omega arith, c .before .before .before .pre .2, λ j low high. absurd (omega arith))
@@ -40,12 +36,9 @@ state-print-requires c κs =
     let a = c .before .before .before .before .before .before .args in
     let h = c .before .before .before .before .before .before .pre in
     let l = c .before .before .loop in (
-      h .0 .one,
-      h .0 .two,
-      h .0 .few,
-      h .0 .more,
-      h .0 .rows,
-      h .1 .mine,
+      h .0,
+      h .4,
+      h .3,
       h .1 .narrow,
       (stringOf (a .words .now) (l .i), string-reaches (codesOf (valuesIn (a .column) (rowsOf (a .first .now) ++ rowsOf (a .second .now)))) (a .words .now) (a .states) _ (h .1 .explored) (l .i) (c .before .loop-test .taken) .0 ∙ sym (c .row-at .ensures)),
     )

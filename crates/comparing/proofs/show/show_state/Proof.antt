@@ -13,16 +13,12 @@ use Rattle.comparing.proofs.StringsOfRows.{keyed}
 use borrow.Author.Needs.{needs}
 use Rattle.comparing.proofs.show.show_state.Statement.{statement}
 use Rattle.comparing.proofs.show.show_state.Tie as tie
-use Rattle.comparing.proofs.show.show_state.Reads as reads
-use Rattle.comparing.proofs.show.show_state.Lts as lts
-use Rattle.comparing.proofs.show.find_state.Reads as find-state-reads
-use Rattle.comparing.proofs.strings.lay_string.Reads as lay-string-reads
 
 find-state-requires : tie.Need-find-state-requires
 find-state-requires c κs =
     let a = c .before .before .before .before .args in
     let h = c .before .before .before .before .pre in
-    (h .0, h .1, starts-low (rowsOf (a .first .now)) (rowsOf (a .second .now)) (a .column) (codes-few (rowsOf (a .first .now)) (rowsOf (a .second .now)) (a .column) (h .1 .narrow)) (a .words .now) (a .states) (h .1 .explored) (a .from) (h .2) (h .3), h .4)
+    (h .0, h .1, starts-low (rowsOf (a .first .now)) (rowsOf (a .second .now)) (a .column) (codes-few (rowsOf (a .first .now)) (rowsOf (a .second .now)) (a .column) (h .1 .narrow)) (a .words .now) (a .states) (h .1 .explored) (a .from) (h .2) (h .3), h .4, h .7)
 
 mul-lay-string : tie.Need-mul-lay-string
 mul-lay-string c = search needs

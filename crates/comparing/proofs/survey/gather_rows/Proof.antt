@@ -1,34 +1,29 @@
 -- The footprints of the rows before the one at hand were added: that is the invariant. A row's footprint is that of its string, which has the row.
-use Prim.Native.Nat.{ℕ, suc, _+_, _-_, _*_, _≤_, _<_}
+use Prim.Native.Nat.{ℕ, _+_, _-_, _≤_, _<_}
 use mathlib.Core.Path.{_≡_, refl, sym, ap, _∙_}
-use mathlib.Core.Bool.{Bool}
+use mathlib.Core.Bool.{Bool, true}
 use mathlib.Core.List.{List, _++_, map}
 use native.Mathlib.Omega.{arith}
 use lib.ListN.{length, take}
 use borrow.Author.Tests.{ne-eqb}
 use Rattle.stored.specs.Choice.{pick}
 use Rattle.matching.specs.Codes.{codesOf}
-use Rattle.judging.specs.Requests.{Value, absent, text}
+use Rattle.judging.specs.Requests.{absent, text}
 use Rattle.judging.specs.Judging.{rowsOf}
-use Rattle.comparing.specs.Columns.{valuesIn}
+use Rattle.comparing.specs.Columns.{valuesIn, sumOf}
 use Rattle.comparing.specs.Kinds.{printsAt}
 use Rattle.comparing.specs.Product.{printOf}
-use Rattle.comparing.specs.Search.{mostStates, stringOf, addingRows}
+use Rattle.comparing.specs.Search.{mostStates, codesAt, stringOf, addingRows}
 use Rattle.comparing.specs.Survey.{printsBetween, printAt}
 use Rattle.comparing.proofs.AddingPrints.{row-added, front-kept}
+use Rattle.comparing.proofs.PlansLaid.{plans-stay}
 use Rattle.comparing.proofs.StatesKept.{row-stays}
 use Rattle.comparing.proofs.Exploring.{string-reaches}
-use borrow.Author.Needs.{needs}
 use Rattle.comparing.proofs.survey.gather_rows.Statement.{statement}
 use Rattle.comparing.proofs.survey.gather_rows.Tie as tie
-use Rattle.comparing.proofs.survey.gather_rows.Reads as reads
-use Rattle.comparing.proofs.survey.gather_rows.Lts as lts
-use Rattle.comparing.proofs.explore.row_at.Reads as row-at-reads
-use Rattle.comparing.proofs.prints.state_print.Reads as state-print-reads
-use Rattle.comparing.proofs.survey.add_print.Reads as add-print-reads
 
 abbrev Inv-loop : tie.InvT-loop
-Inv-loop words₀ first second column from start row states own size to₀ i₀ words to i =
+Inv-loop words₀ first second column from start row states plans size to₀ i₀ words to i =
     (row ≤ i) × (i ≤ states) × (start ≤ to) × (to ≤ start + (i - row)) × (length words ≡ length words₀)
     × (take (printsAt + start) words ≡ take (printsAt + start) words₀)
     × ((found : List ℕ) → printsBetween words₀ from start ≡ map (printAt (rowsOf first) (rowsOf second) column words₀) found
@@ -36,7 +31,7 @@ Inv-loop words₀ first second column from start row states own size to₀ i₀ 
     ≡ map (printAt (rowsOf first) (rowsOf second) column words₀) (addingRows (printAt (rowsOf first) (rowsOf second) column words₀) found row (i - row)))
 
 abbrev μ-loop : tie.MeasureT-loop
-μ-loop words₀ first second column from start row states own size to₀ i₀ words to i = states - i
+μ-loop words₀ first second column from start row states plans size to₀ i₀ words to i = states - i
 
 loop-holds : tie.Need-loop-holds Inv-loop μ-loop
 loop-holds c =
@@ -64,49 +59,47 @@ row-at-requires c κs =
 
 state-print-requires : tie.Need-state-print-requires Inv-loop μ-loop
 state-print-requires c κs =
-    let l = c .before .before .before .loop in
-    let a = c .before .before .before .before .before .before .before .args in
-    let h = c .before .before .before .before .before .before .before .pre in
-    let few = h .1 .explored .few in (
-      h .0 .one,
-      h .0 .two,
-      h .0 .few,
-      h .0 .more,
-      h .0 .rows,
-      h .1 .mine,
+    let l = c .before .before .before .before .loop in
+    let a = c .before .before .before .before .before .before .before .before .args in
+    let h = c .before .before .before .before .before .before .before .before .pre in
+    let few = h .1 .explored .few in
+    let same = front-kept (l .words) (a .words .now) (printsAt + a .start) printsAt (l .inv .5) (omega arith) in (
+      h .0,
+      plans-stay (a .first .now) (a .second .now) (a .column) true (sumOf (valuesIn (a .column) (rowsOf (a .first .now)))) (a .words .now) (l .words) (a .plans) same (h .5),
+      omega (arith, h .4, l .inv .4),
       h .1 .narrow,
       (
         stringOf (a .words .now) (l .i),
         string-reaches (codesOf (valuesIn (a .column) (rowsOf (a .first .now) ++ rowsOf (a .second .now)))) (a .words .now) (a .states) _ (h .1 .explored) (l .i) (omega arith) .0
             ∙ sym
-            (c .row-at .ensures
-            ∙ row-stays (a .words .now) (l .words) (front-kept (l .words) (a .words .now) (printsAt + a .start) printsAt (l .inv .5) (omega arith)) (l .i) (omega arith)),
+            (c .before .row-at .ensures
+            ∙ row-stays (a .words .now) (l .words) (front-kept (l .words) (a .words .now) printsAt codesAt same (omega arith)) (l .i) (omega arith)),
       ),
     )
 
 add-print-requires : tie.Need-add-print-requires Inv-loop μ-loop
 add-print-requires c κs =
-    let l = c .before .before .before .before .before .loop in
-    let h = c .before .before .before .before .before .before .before .before .before .pre in
+    let l = c .before .before .before .before .before .before .loop in
+    let h = c .before .before .before .before .before .before .before .before .before .before .pre in
     (omega (arith, h .3, l .inv .2), omega (arith, h .4, l .inv .3, l .inv .4))
 
 add-i : tie.Need-add-i Inv-loop μ-loop
-add-i c = omega (arith, c .before .before .before .before .before .before .before .before .before .before .before .before .pre .1 .explored .few)
+add-i c = omega (arith, c .before .before .before .before .before .before .before .before .before .before .before .before .before .pre .1 .explored .few)
 
 loop-less : tie.Need-loop-less Inv-loop μ-loop
 loop-less c = omega arith
 
 loop-again : tie.Need-loop-again Inv-loop μ-loop
 loop-again c =
-    let l = c .before .before .before .before .before .before .before .before .loop in
-    let a = c .before .before .before .before .before .before .before .before .before .before .before .before .args in
-    let h = c .before .before .before .before .before .before .before .before .before .before .before .before .pre in
+    let l = c .before .before .before .before .before .before .before .before .before .loop in
+    let a = c .before .before .before .before .before .before .before .before .before .before .before .before .before .args in
+    let h = c .before .before .before .before .before .before .before .before .before .before .before .before .before .pre in
     let added = c .before .before .add-print in
     let low : l .i < a .states = omega arith in
     let few = h .1 .explored .few in
     let row =
-    c .before .before .before .before .before .row-at .ensures
-    ∙ row-stays (a .words .now) (l .words) (front-kept (l .words) (a .words .now) (printsAt + a .start) printsAt (l .inv .5) (omega arith)) (l .i) (omega arith) in
+    c .before .before .before .before .before .before .row-at .ensures
+    ∙ row-stays (a .words .now) (l .words) (front-kept (l .words) (a .words .now) (printsAt + a .start) codesAt (l .inv .5) (omega arith)) (l .i) (omega arith) in
     let is =
     c .before .before .before .before .state-print .ensures (stringOf (a .words .now) (l .i))
     (string-reaches (codesOf (valuesIn (a .column) (rowsOf (a .first .now) ++ rowsOf (a .second .now)))) (a .words .now) (a .states) _ (h .1 .explored) (l .i) low .0 ∙ sym row)

@@ -1,48 +1,40 @@
 -- Three ways, by the column and by whether it has a value; each leaves the footprints of the first values.
-use Prim.Native.Nat.{ℕ, suc, _+_, _-_, _≤_, _<_}
-use mathlib.Core.Path.{_≡_, refl, sym, ap, _∙_}
-use mathlib.Core.List.{List, _++_}
+use Prim.Native.Nat.{_+_, _-_}
+use mathlib.Core.Path.{sym, _∙_}
+use mathlib.Core.Bool.{true}
+use mathlib.Core.List.{_++_}
 use native.Mathlib.Omega.{arith}
-use lib.ListN.{length}
 use Rattle.matching.specs.Codes.{codesOf}
 use Rattle.judging.specs.Judging.{rowsOf}
-use Rattle.comparing.specs.Columns.{valuesIn}
+use Rattle.comparing.specs.Columns.{valuesIn, sumOf}
+use Rattle.comparing.specs.Kinds.{printsAt}
 use Rattle.comparing.specs.Search.{stringOf}
+use Rattle.comparing.proofs.AddingPrints.{front-kept}
 use Rattle.comparing.proofs.Exploring.{string-reaches}
+use Rattle.comparing.proofs.PlansLaid.{plans-stay}
 use Rattle.comparing.proofs.TextsGathered.{gathered-none, gathered-needed, gathered-optional, states-stay}
-use borrow.Author.Needs.{needs}
 use Rattle.comparing.proofs.survey.gather_texts.Statement.{statement}
 use Rattle.comparing.proofs.survey.gather_texts.Tie as tie
-use Rattle.comparing.proofs.survey.gather_texts.Reads as reads
-use Rattle.comparing.proofs.survey.gather_texts.Lts as lts
-use Rattle.comparing.proofs.explore.row_at.Reads as row-at-reads
-use Rattle.comparing.proofs.prints.absent_print.Reads as absent-print-reads
-use Rattle.comparing.proofs.prints.state_print.Reads as state-print-reads
-use Rattle.comparing.proofs.survey.add_print.Reads as add-print-reads
-use Rattle.comparing.proofs.survey.gather_rows.Reads as gather-rows-reads
 
 row-at-requires : tie.Need-row-at-requires
 row-at-requires c κs =
-    let h = c .before .before .before .before .before .before .before .pre in
+    let h = c .before .before .before .before .before .before .pre in
     omega (arith, h .4 .room)
 
 state-print-requires : tie.Need-state-print-requires
 state-print-requires c κs =
     let a = c .before .before .before .before .before .before .before .before .args in
     let h = c .before .before .before .before .before .before .before .before .pre in (
-      h .0 .one,
-      h .0 .two,
-      h .0 .few,
-      h .0 .more,
-      h .0 .rows,
-      h .1 .mine,
+      h .0,
+      h .5,
+      omega (arith, h .4 .room),
       h .1 .narrow,
-      (stringOf (a .words .now) 0, string-reaches (codesOf (valuesIn (a .column) (rowsOf (a .first .now) ++ rowsOf (a .second .now)))) (a .words .now) (a .states) _ (h .1 .explored) 0 (h .1 .explored .some) .0 ∙ sym (c .row-at .ensures)),
+      (stringOf (a .words .now) 0, string-reaches (codesOf (valuesIn (a .column) (rowsOf (a .first .now) ++ rowsOf (a .second .now)))) (a .words .now) (a .states) _ (h .1 .explored) 0 (h .1 .explored .some) .0 ∙ sym (c .before .row-at .ensures)),
     )
 
 add-print-requires : tie.Need-add-print-requires
 add-print-requires c κs =
-    let h = c .before .before .before .before .before .before .before .before .before .pre in
+    let h = c .before .before .before .before .before .before .before .before .before .before .pre in
     (omega arith, omega (arith, h .4 .low, h .4 .room))
 
 same-length : tie.Need-same-length
@@ -50,17 +42,17 @@ same-length c = c .before .before .add-print .ensures .same
 
 returns : tie.Need-returns
 returns c =
-    let a = c .before .before .before .before .before .before .before .before .before .before .before .before .args in
-    let h = c .before .before .before .before .before .before .before .before .before .before .before .before .pre in
+    let a = c .before .before .before .before .before .before .before .before .before .before .before .before .before .args in
+    let h = c .before .before .before .before .before .before .before .before .before .before .before .before .before .pre in
     let added = c .before .before .add-print in
-    gathered-none (rowsOf (a .first .now)) (rowsOf (a .second .now)) (a .column) (a .words .now) (a .own) (a .states) (a .from) (h .1) (h .4)
-    (added .last .0) (c .before .before .before .state-print .result) (added .result) (stringOf (a .words .now) 0) (omega arith) (omega (arith, h .2))
-    (c .before .before .before .state-print .ensures (stringOf (a .words .now) 0) (string-reaches (codesOf (valuesIn (a .column) (rowsOf (a .first .now) ++ rowsOf (a .second .now)))) (a .words .now) (a .states) _ (h .1 .explored) 0 (h .1 .explored .some) .0 ∙ sym (c .before .before .before .before .row-at .ensures))) (added .ensures)
+    gathered-none (rowsOf (a .first .now)) (rowsOf (a .second .now)) (a .column) (a .words .now) (a .states) (a .from) (h .1) (h .4)
+    (added .last .0) (c .before .before .before .before .state-print .result) (added .result) (stringOf (a .words .now) 0) (omega arith) (omega (arith, h .2))
+    (c .before .before .before .before .state-print .ensures (stringOf (a .words .now) 0) (string-reaches (codesOf (valuesIn (a .column) (rowsOf (a .first .now) ++ rowsOf (a .second .now)))) (a .words .now) (a .states) _ (h .1 .explored) 0 (h .1 .explored .some) .0 ∙ sym (c .before .before .before .before .before .before .row-at .ensures))) (added .ensures)
 
 gather-rows-requires : tie.Need-gather-rows-requires
 gather-rows-requires c κs =
     let h = c .before .before .before .before .before .before .pre in
-    (h .0, h .1, omega (arith, h .1 .explored .some), omega arith, omega (arith, h .1 .explored .few, h .4 .low, h .4 .room))
+    (h .0, h .1, omega (arith, h .1 .explored .some), omega arith, omega (arith, h .1 .explored .few, h .4 .low, h .4 .room), h .5)
 
 same-length-2 : tie.Need-same-length-2
 same-length-2 c = c .before .before .gather-rows .ensures .same
@@ -70,7 +62,7 @@ returns-2 c =
     let a = c .before .before .before .before .before .before .before .before .before .args in
     let h = c .before .before .before .before .before .before .before .before .before .pre in
     let rows = c .before .before .gather-rows in
-    gathered-needed (rowsOf (a .first .now)) (rowsOf (a .second .now)) (a .column) (a .words .now) (a .own) (a .states) (a .from) (h .1) (h .4) (rows .last .0) (rows .result) (omega arith) (omega (arith, h .2)) (rows .ensures)
+    gathered-needed (rowsOf (a .first .now)) (rowsOf (a .second .now)) (a .column) (a .words .now) (a .states) (a .from) (h .1) (h .4) (rows .last .0) (rows .result) (omega arith) (omega (arith, h .2)) (rows .ensures)
 
 absent-print-requires : tie.Need-absent-print-requires
 absent-print-requires c κs =
@@ -88,10 +80,12 @@ gather-rows-requires-2 c κs =
     let h = c .before .before .before .before .before .before .before .before .before .before .pre in
     let added = c .before .before .before .add-print2 in (
       h .0,
-      states-stay (rowsOf (a .first .now)) (rowsOf (a .second .now)) (a .column) (a .words .now) (a .own) (a .states) (a .from) (h .1) (h .4) (added .last .0) (c .before .before .before .before .absent-print .result) (added .result) (c .before .before .before .before .absent-print .ensures) (added .ensures),
+      states-stay (rowsOf (a .first .now)) (rowsOf (a .second .now)) (a .column) (a .words .now) (a .states) (a .from) (h .1) (h .4) (added .last .0) (c .before .before .before .before .absent-print .result) (added .result) (c .before .before .before .before .absent-print .ensures) (added .ensures),
       omega arith,
       added .ensures .low,
       omega (arith, h .1 .explored .few, h .4 .low, h .4 .room, added .ensures .high, added .ensures .same),
+      plans-stay (a .first .now) (a .second .now) (a .column) true (sumOf (valuesIn (a .column) (rowsOf (a .first .now)))) (a .words .now) (added .last .0) (a .plans)
+          (front-kept (added .last .0) (a .words .now) (printsAt + a .from) printsAt (added .ensures .kept) (omega arith)) (h .5),
     )
 
 same-length-3 : tie.Need-same-length-3
@@ -103,7 +97,7 @@ returns-3 c =
     let h = c .before .before .before .before .before .before .before .before .before .before .before .before .before .pre in
     let added = c .before .before .before .before .before .before .add-print2 in
     let rows = c .before .before .gather-rows2 in
-    gathered-optional (rowsOf (a .first .now)) (rowsOf (a .second .now)) (a .column) (a .words .now) (a .own) (a .states) (a .from) (h .1) (h .4) (added .last .0) (c .before .before .before .before .before .before .before .absent-print .result) (added .result) (c .before .before .before .before .before .before .before .absent-print .ensures) (added .ensures)
+    gathered-optional (rowsOf (a .first .now)) (rowsOf (a .second .now)) (a .column) (a .words .now) (a .states) (a .from) (h .1) (h .4) (added .last .0) (c .before .before .before .before .before .before .before .absent-print .result) (added .result) (c .before .before .before .before .before .before .before .absent-print .ensures) (added .ensures)
     (rows .last .0) (rows .result) (omega arith) (h .3) (rows .ensures)
 
 pub gather-texts-spec : {M : Type 1} → statement M

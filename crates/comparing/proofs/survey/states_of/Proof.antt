@@ -12,13 +12,10 @@ use Rattle.comparing.specs.Columns.{valuesIn, sumOf}
 use Rattle.comparing.specs.Search.{mostStates, Explored, Exceeded}
 use Rattle.comparing.proofs.Widths.{sum-both}
 use Rattle.comparing.proofs.LaidCodes.{withCodes, with-length, part-length, codes-both-laid, prints-stay}
+use Rattle.comparing.proofs.TakenRows.{codes-stay, searchable-laid}
 use borrow.Author.Needs.{needs}
 use Rattle.comparing.proofs.survey.states_of.Statement.{statement}
 use Rattle.comparing.proofs.survey.states_of.Tie as tie
-use Rattle.comparing.proofs.survey.states_of.Reads as reads
-use Rattle.comparing.proofs.survey.states_of.Lts as lts
-use Rattle.comparing.proofs.contents.lay_codes.Reads as lay-codes-reads
-use Rattle.comparing.proofs.explore.explore.Reads as explore-reads
 
 sub-lay-codes : tie.Need-sub-lay-codes
 sub-lay-codes c = search needs
@@ -52,54 +49,71 @@ lay-codes-requires-2 c κs =
     let h = c .before .before .before .before .before .before .before .before .pre in
     let laid = c .before .before .before .lay-codes in
     let size : length (laid .last .0) ≡ 512 = laid .kept .0 ∙ part-length (a .words .now) (h .3) in
-    let long : 5120 ≤ length (withCodes (a .words .now) (laid .last .0)) = omega (arith, h .3, with-length (a .words .now) (laid .last .0) (h .3) size) in (
+    let long : 5976 ≤ length (withCodes (a .words .now) (laid .last .0)) = omega (arith, h .3, with-length (a .words .now) (laid .last .0) (h .3) size) in (
       h .1,
       omega (arith, h .2, laid .ensures .0, sum-both (a .column) (rowsOf (a .first .now)) (rowsOf (a .second .now)), part-length (withCodes (a .words .now) (laid .last .0)) long),
     )
 
-explore-requires : tie.Need-explore-requires
-explore-requires c κs =
+lay-taken-requires : tie.Need-lay-taken-requires
+lay-taken-requires c κs =
     let a = c .before .before .before .before .before .before .before .before .before .before .before .before .args in
     let h = c .before .before .before .before .before .before .before .before .before .before .before .before .pre in
     let first = c .before .before .before .before .before .before .before .lay-codes in
     let second = c .before .before .before .lay-codes2 in
     let size : length (first .last .0) ≡ 512 = first .kept .0 ∙ part-length (a .words .now) (h .3) in
     let same = with-length (a .words .now) (first .last .0) (h .3) size in
-    let long : 5120 ≤ length (withCodes (a .words .now) (first .last .0)) = omega (arith, h .3, same) in
+    let long : 5976 ≤ length (withCodes (a .words .now) (first .last .0)) = omega (arith, h .3, same) in
     let also : length (second .last .0) ≡ 512 = second .kept .0 ∙ part-length (withCodes (a .words .now) (first .last .0)) long in
-    record {
-      most = omega (arith, h .2, first .ensures .0, second .ensures .0, sum-both (a .column) (rowsOf (a .first .now)) (rowsOf (a .second .now)));
-      room = omega (arith, long, with-length (withCodes (a .words .now) (first .last .0)) (second .last .0) long also);
-    }
+    let all = with-length (withCodes (a .words .now) (first .last .0)) (second .last .0) long also in
+    (omega (arith, h .2, first .ensures .0, second .ensures .0, sum-both (a .column) (rowsOf (a .first .now)) (rowsOf (a .second .now))), omega (arith, long, all))
+
+explore-requires : tie.Need-explore-requires
+explore-requires c κs =
+    let a = c .before .before .before .before .before .before .before .before .before .before .before .before .before .before .before .before .args in
+    let h = c .before .before .before .before .before .before .before .before .before .before .before .before .before .before .before .before .pre in
+    let first = c .before .before .before .before .before .before .before .before .before .before .before .lay-codes in
+    let second = c .before .before .before .before .before .before .before .lay-codes2 in
+    let size : length (first .last .0) ≡ 512 = first .kept .0 ∙ part-length (a .words .now) (h .3) in
+    let same = with-length (a .words .now) (first .last .0) (h .3) size in
+    let long : 5976 ≤ length (withCodes (a .words .now) (first .last .0)) = omega (arith, h .3, same) in
+    let also : length (second .last .0) ≡ 512 = second .kept .0 ∙ part-length (withCodes (a .words .now) (first .last .0)) long in
+    let all = with-length (withCodes (a .words .now) (first .last .0)) (second .last .0) long also in
+    let taken = c .before .before .before .lay-taken in
+    searchable-laid (second .result) (withCodes (withCodes (a .words .now) (first .last .0)) (second .last .0)) (taken .last .0)
+    (omega (arith, h .2, first .ensures .0, second .ensures .0, sum-both (a .column) (rowsOf (a .first .now)) (rowsOf (a .second .now))))
+    (taken .ensures) (omega (arith, long, all))
 
 same-length : tie.Need-same-length
 same-length c =
-    let a = c .before .before .before .before .before .before .before .before .before .before .before .before .before .before .before .args in
-    let h = c .before .before .before .before .before .before .before .before .before .before .before .before .before .before .before .pre in
-    let first = c .before .before .before .before .before .before .before .before .before .before .lay-codes in
-    let second = c .before .before .before .before .before .before .lay-codes2 in
+    let a = c .before .before .before .before .before .before .before .before .before .before .before .before .before .before .before .before .before .before .before .args in
+    let h = c .before .before .before .before .before .before .before .before .before .before .before .before .before .before .before .before .before .before .before .pre in
+    let first = c .before .before .before .before .before .before .before .before .before .before .before .before .before .before .lay-codes in
+    let second = c .before .before .before .before .before .before .before .before .before .before .lay-codes2 in
     let size : length (first .last .0) ≡ 512 = first .kept .0 ∙ part-length (a .words .now) (h .3) in
     let same = with-length (a .words .now) (first .last .0) (h .3) size in
-    let long : 5120 ≤ length (withCodes (a .words .now) (first .last .0)) = omega (arith, h .3, same) in
+    let long : 5976 ≤ length (withCodes (a .words .now) (first .last .0)) = omega (arith, h .3, same) in
     let also : length (second .last .0) ≡ 512 = second .kept .0 ∙ part-length (withCodes (a .words .now) (first .last .0)) long in
     let all = with-length (withCodes (a .words .now) (first .last .0)) (second .last .0) long also in
-    c .before .before .explore .kept .0 ∙ all ∙ same
+    c .before .before .explore .kept .0 ∙ c .before .before .before .before .before .before .lay-taken .kept .0 ∙ all ∙ same
 
 returns : tie.Need-returns
 returns c =
-    let a = c .before .before .before .before .before .before .before .before .before .before .before .before .before .before .before .args in
-    let h = c .before .before .before .before .before .before .before .before .before .before .before .before .before .before .before .pre in
-    let first = c .before .before .before .before .before .before .before .before .before .before .lay-codes in
-    let second = c .before .before .before .before .before .before .lay-codes2 in
+    let a = c .before .before .before .before .before .before .before .before .before .before .before .before .before .before .before .before .before .before .before .args in
+    let h = c .before .before .before .before .before .before .before .before .before .before .before .before .before .before .before .before .before .before .before .pre in
+    let first = c .before .before .before .before .before .before .before .before .before .before .before .before .before .before .lay-codes in
+    let second = c .before .before .before .before .before .before .before .before .before .before .lay-codes2 in
     let size : length (first .last .0) ≡ 512 = first .kept .0 ∙ part-length (a .words .now) (h .3) in
     let same = with-length (a .words .now) (first .last .0) (h .3) size in
-    let long : 5120 ≤ length (withCodes (a .words .now) (first .last .0)) = omega (arith, h .3, same) in
+    let long : 5976 ≤ length (withCodes (a .words .now) (first .last .0)) = omega (arith, h .3, same) in
     let also : length (second .last .0) ≡ 512 = second .kept .0 ∙ part-length (withCodes (a .words .now) (first .last .0)) long in
     let all = with-length (withCodes (a .words .now) (first .last .0)) (second .last .0) long also in
+    let taken = c .before .before .before .before .before .before .lay-taken in
     let search = c .before .before .explore in
     let sums = sum-both (a .column) (rowsOf (a .first .now)) (rowsOf (a .second .now)) in
+    let most : second .result ≤ 512 = omega (arith, h .2, first .ensures .0, second .ensures .0, sums) in
     let codes =
-    codes-both-laid (a .words .now) (h .3) (a .column) (rowsOf (a .first .now)) (rowsOf (a .second .now)) (h .2) (first .last .0) (second .last .0)
+    codes-stay (second .result) (withCodes (withCodes (a .words .now) (first .last .0)) (second .last .0)) (taken .last .0) most (taken .ensures)
+    ∙ codes-both-laid (a .words .now) (h .3) (a .column) (rowsOf (a .first .now)) (rowsOf (a .second .now)) (h .2) (first .last .0) (second .last .0)
     (first .result) (second .result) (first .ensures .0) (first .ensures .1) (second .ensures .0) (second .ensures .1) in
     record {
       mine = omega (arith, first .ensures .0);
@@ -110,8 +124,8 @@ returns c =
           ((search .result ≤ mostStates) × Explored codes (search .last .0) (search .result))
           ⊎ ((search .result ≡ suc mostStates) × Exceeded codes (search .last .0)))
           codes (search .ensures .answer);
-      kept = prints-stay (a .words .now) (h .3) (first .last .0) (second .last .0) (search .last .0) size also (search .ensures .kept);
-      same = search .kept .0 ∙ all ∙ same;
+      kept = prints-stay (a .words .now) (h .3) (first .last .0) (second .last .0) (taken .last .0) (search .last .0) size also (taken .ensures .behind) (search .ensures .kept);
+      same = search .kept .0 ∙ taken .kept .0 ∙ all ∙ same;
     }
 
 pub states-of-spec : {M : Type 1} → statement M
@@ -126,6 +140,7 @@ states-of-spec =
     part-lay-codes-start-2
     part-lay-codes-end-2
     lay-codes-requires-2
+    lay-taken-requires
     explore-requires
     same-length
     returns)

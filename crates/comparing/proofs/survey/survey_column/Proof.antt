@@ -1,37 +1,43 @@
 -- Column 7 goes by edges; another column by its states, if there are few of them.
-use Prim.Native.Nat.{ℕ, _≤_, _<_}
-use mathlib.Core.Path.{_≡_, sym, ap, _∙_, subst}
-use mathlib.Core.List.{List, _++_}
+use Prim.Native.Nat.{ℕ, _<_}
+use mathlib.Core.Path.{_≡_, sym, _∙_, subst}
+use mathlib.Core.Bool.{true}
 use native.Mathlib.Omega.{arith}
-use lib.ListN.{length}
 use Rattle.judging.specs.Judging.{rowsOf}
+use Rattle.comparing.specs.Plan.{HasPlans}
 use Rattle.comparing.specs.Survey.{Gathered}
 use Rattle.comparing.proofs.ColumnSurveyed.{found-states, found-few, found-many, gathered-behind}
-use borrow.Author.Needs.{needs}
+use Rattle.comparing.proofs.PlansLaid.{texts-fit, addresses-fit}
+use Rattle.comparing.proofs.StatesKept.{states-kept}
+use Rattle.comparing.proofs.Widths.{sum-both}
 use Rattle.comparing.proofs.survey.survey_column.Statement.{statement}
 use Rattle.comparing.proofs.survey.survey_column.Tie as tie
-use Rattle.comparing.proofs.survey.survey_column.Reads as reads
-use Rattle.comparing.proofs.survey.survey_column.Lts as lts
-use Rattle.comparing.proofs.survey.gather_addresses.Reads as gather-addresses-reads
-use Rattle.comparing.proofs.survey.gather_texts.Reads as gather-texts-reads
-use Rattle.comparing.proofs.survey.states_of.Reads as states-of-reads
+
+lay-plans-requires : tie.Need-lay-plans-requires
+lay-plans-requires c κs =
+    let a = c .before .before .before .before .before .args in
+    let h = c .before .before .before .before .before .pre in
+    (addresses-fit (a .first .now) (a .second .now) (h .0 .one) (h .0 .two) (h .0 .few) (h .0 .more) (h .1 .networks), omega arith, omega (arith, h .1 .room))
 
 gather-addresses-requires : tie.Need-gather-addresses-requires
 gather-addresses-requires c κs =
-    let h = c .before .before .before .before .before .pre in
-    (h .0, h .1 .networks, record { low = h .3; room = h .1 .room })
+    let h = c .before .before .before .before .before .before .before .before .before .pre in
+    let laid = c .before .before .before .lay-plans .ensures in
+    (h .0, h .1 .networks, record { low = h .3; room = omega (arith, h .1 .room, laid .same) }, laid .has)
 
 same-length : tie.Need-same-length
-same-length c = c .before .before .gather-addresses .ensures .same
+same-length c = c .before .before .gather-addresses .ensures .same ∙ c .before .before .before .before .before .before .lay-plans .ensures .same
 
 returns : tie.Need-returns
 returns c =
-    let a = c .before .before .before .before .before .before .before .before .args in
+    let a = c .before .before .before .before .before .before .before .before .before .before .before .before .args in
+    let laid = c .before .before .before .before .before .before .lay-plans in
     let gathered = c .before .before .gather-addresses in
-    let seven : a .column ≡ 7 = c .before .before .before .before .if1 .taken in (
+    let seven : a .column ≡ 7 = c .before .before .before .before .before .before .before .before .if1 .taken in (
       (λ low. absurd (omega arith)),
       subst (λ (column : ℕ). Gathered (rowsOf (a .first .now)) (rowsOf (a .second .now)) column (a .words .now) (gathered .last .0) (a .from) (gathered .result))
-          (sym seven) (gathered .ensures),
+          (sym seven)
+          (gathered-behind (rowsOf (a .first .now)) (rowsOf (a .second .now)) 7 (a .words .now) (laid .last .0) (gathered .last .0) (a .from) (gathered .result) (laid .ensures .kept) (laid .ensures .same) (gathered .ensures)),
     )
 
 states-of-requires : tie.Need-states-of-requires
@@ -51,43 +57,63 @@ returns-2 c =
     let low : a .column < 7 = omega arith in
     (low, found-many (rowsOf (a .first .now)) (rowsOf (a .second .now)) (a .column) (a .words .now) (found .last .0) (found .result) (found .ensures) (h .1 .narrow (a .column) low) (c .if2 .taken), found .ensures .same)
 
-gather-texts-requires : tie.Need-gather-texts-requires
-gather-texts-requires c κs =
+lay-plans-requires-2 : tie.Need-lay-plans-requires-2
+lay-plans-requires-2 c κs =
     let a = c .before .before .before .before .before .before .before .before .before .before .before .args in
     let h = c .before .before .before .before .before .before .before .before .before .before .before .pre in
-    let found = c .before .before .before .before .before .states-of in
+    let found = c .before .before .before .before .before .states-of .ensures in
+    let narrow = h .1 .narrow (a .column) (omega arith) in (
+      texts-fit (a .first .now) (a .second .now) (h .0 .one) (h .0 .two) (h .0 .few) (h .0 .more) (a .column) _ narrow,
+      omega (arith, narrow, found .mine, sum-both (a .column) (rowsOf (a .first .now)) (rowsOf (a .second .now))),
+      omega (arith, h .1 .room, found .same),
+    )
+
+gather-texts-requires : tie.Need-gather-texts-requires
+gather-texts-requires c κs =
+    let a = c .before .before .before .before .before .before .before .before .before .before .before .before .before .before .before .args in
+    let h = c .before .before .before .before .before .before .before .before .before .before .before .before .before .before .before .pre in
+    let found = c .before .before .before .before .before .before .before .before .before .states-of in
+    let laid = c .before .before .before .lay-plans2 in
     let low : a .column < 7 = omega arith in (
       h .0,
-      found-states (rowsOf (a .first .now)) (rowsOf (a .second .now)) (a .column) (a .words .now) (found .last .0) (found .result) (found .ensures) (h .1 .narrow (a .column) low) (omega arith),
+      states-kept (rowsOf (a .first .now)) (rowsOf (a .second .now)) (a .column) (found .last .0) (laid .last .0) (found .result .states) (laid .ensures .front)
+          (found-states (rowsOf (a .first .now)) (rowsOf (a .second .now)) (a .column) (a .words .now) (found .last .0) (found .result) (found .ensures) (h .1 .narrow (a .column) low) (omega arith)),
       found .ensures .all,
       low,
-      record { low = h .3; room = omega (arith, h .1 .room, found .ensures .same) },
+      record { low = h .3; room = omega (arith, h .1 .room, found .ensures .same, laid .ensures .same) },
+      subst (λ (n : ℕ). HasPlans (a .first .now) (a .second .now) (a .column) true n (laid .last .0) (laid .result)) (found .ensures .mine) (laid .ensures .has),
     )
 
 same-length-3 : tie.Need-same-length-3
-same-length-3 c = c .before .before .gather-texts .ensures .same ∙ c .before .before .before .before .before .before .before .before .states-of .ensures .same
+same-length-3 c =
+    c .before .before .gather-texts .ensures .same
+    ∙ c .before .before .before .before .before .before .lay-plans2 .ensures .same
+    ∙ c .before .before .before .before .before .before .before .before .before .before .before .before .states-of .ensures .same
 
 returns-3 : tie.Need-returns-3
 returns-3 c =
-    let a = c .before .before .before .before .before .before .before .before .before .before .before .before .before .before .args in
-    let h = c .before .before .before .before .before .before .before .before .before .before .before .before .before .before .pre in
-    let found = c .before .before .before .before .before .before .before .before .states-of in
+    let a = c .before .before .before .before .before .before .before .before .before .before .before .before .before .before .before .before .before .before .args in
+    let h = c .before .before .before .before .before .before .before .before .before .before .before .before .before .before .before .before .before .before .pre in
+    let found = c .before .before .before .before .before .before .before .before .before .before .before .before .states-of in
+    let laid = c .before .before .before .before .before .before .lay-plans2 in
     let gathered = c .before .before .gather-texts in
-    let low : a .column < 7 = omega arith in (
-      (λ under. found-few (rowsOf (a .first .now)) (rowsOf (a .second .now)) (a .column) (a .words .now) (found .last .0) (found .result) (found .ensures) (h .1 .narrow (a .column) low) (omega arith)),
-      gathered-behind (rowsOf (a .first .now)) (rowsOf (a .second .now)) (a .column) (a .words .now) (found .last .0) (gathered .last .0) (a .from) (gathered .result) (found .ensures .kept) (found .ensures .same) (gathered .ensures),
+    let low : a .column < 7 = omega (arith, h .2, c .before .before .before .before .before .before .before .before .before .before .before .before .before .before .if1 .left) in (
+      (λ under. found-few (rowsOf (a .first .now)) (rowsOf (a .second .now)) (a .column) (a .words .now) (found .last .0) (found .result) (found .ensures) (h .1 .narrow (a .column) low) (omega (arith, c .before .before .before .before .before .before .before .before .if2 .left))),
+      gathered-behind (rowsOf (a .first .now)) (rowsOf (a .second .now)) (a .column) (a .words .now) (laid .last .0) (gathered .last .0) (a .from) (gathered .result) (laid .ensures .kept ∙ found .ensures .kept) (laid .ensures .same ∙ found .ensures .same) (gathered .ensures),
     )
 
 pub survey-column-spec : {M : Type 1} → statement M
 survey-column-spec =
     tie.close
     (tie.spec
+    lay-plans-requires
     gather-addresses-requires
     same-length
     returns
     states-of-requires
     same-length-2
     returns-2
+    lay-plans-requires-2
     gather-texts-requires
     same-length-3
     returns-3)
