@@ -1,2 +1,3 @@
--- What the proofs of the entry points share.
+-- What the proofs of the entry points share, and what they promise.
 pub mod Flags
+pub mod Promises
