@@ -1,4 +1,4 @@
--- The text of the cases: where a byte stands next, parts of bytes, and the signs of a word.
+-- The text of the cases: where a byte stands next, parts of bytes, and the signs of a word; and memory that holds one number.
 use Prim.Native.Nat.{ℕ, _+_, _-_}
 use mathlib.Core.Bool.{Bool, true, false, _&&_, _||_}
 use mathlib.Core.List.{List, [], _∷_}
@@ -19,6 +19,11 @@ upTo own wanted (b ∷ bs) = pick (eqb b wanted) own (upTo own wanted bs + 1)
 abbrev pub standAt : List ℕ → ℕ → List ℕ → Bool
 standAt text at [] = true
 standAt text at (b ∷ bs) = eqb (getD text at 0) b && standAt text (at + 1) bs
+
+-- every number of the list is this one
+abbrev pub allAre : ℕ → List ℕ → Bool
+allAre one [] = true
+allAre one (n ∷ ns) = eqb n one && allAre one ns
 
 -- a blank, or the end of a line
 abbrev pub isBlank : ℕ → Bool

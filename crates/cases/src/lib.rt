@@ -1,5 +1,6 @@
-// What the programs that run cases share: the lines and words of a text, the bytes that words stand for, and how a refusal is
-// printed.
+// What the programs that run cases share: the lines and words of a text, the bytes that words stand for, whether lent memory was
+// left alone, and how a refusal is printed.
 pub mod laying;
 pub mod print;
+pub mod same;
 pub mod text;

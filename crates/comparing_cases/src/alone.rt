@@ -1,13 +1,13 @@
 // The two questions with lent buffers that are too short, just long enough or longer, and with a k past the last gap. The tables
 // are those of document 01 in "The gap program", which have one gap.
-use crate::question::ONES;
-use crate::question::print_counting;
-use crate::question::print_showing;
-use crate::same::are_bytes;
-use crate::same::are_words;
+use cases::same::are_bytes;
+use cases::same::are_words;
 use cases::text::part_of;
 use comparing::compare::gap;
 use comparing::compare::gap_count;
+use pairs::question::ONES;
+use pairs::question::print_counting;
+use pairs::question::print_showing;
 
 // Stands in no shown value.
 const FILLING: u8 = 0xEE;

@@ -1,11 +1,11 @@
 // What came out of a question, as a part of a line.
-use crate::same::are_bytes;
 use cases::print::print_number;
+use cases::same::are_bytes;
 use cases::text::first_bytes;
 use cases::text::part_of;
 use comparing::answers::Shape;
 
-pub fn print_refused(number: u8, table: u8, place: usize) {
+pub(crate) fn print_refused(number: u8, table: u8, place: usize) {
     io::write_all(1, b" refused");
     print_number(number as usize);
     print_number(table as usize);
@@ -53,8 +53,8 @@ fn print_keys(shape: Shape, values: &[u8]) {
     );
 }
 
-fn print_address(address: u32) {
-    io::write_all(1, b" ip=");
+// An address in dotted decimal.
+pub fn print_address(address: u32) {
     io::print_decimal(1, (address / 0x1000000) as u64);
     io::write_all(1, b".");
     io::print_decimal(1, (address / 0x10000 % 256) as u64);
@@ -65,11 +65,12 @@ fn print_address(address: u32) {
 }
 
 // The columns of a gap, those that are there.
-pub fn print_shape(shape: Shape, values: &[u8]) {
+pub(crate) fn print_shape(shape: Shape, values: &[u8]) {
     print_elements(shape, values);
     print_keys(shape, values);
     let present = shape.present;
     if present.address {
+        io::write_all(1, b" ip=");
         print_address(shape.address);
     }
 }

@@ -1,8 +1,8 @@
 -- At most eight gaps are asked for.
 use Prim.Native.Nat.{_-_, _≤_}
 use borrow.Author.Needs.{needs}
-use Rattle.comparing_cases.proofs.question.run_gaps.Statement.{statement}
-use Rattle.comparing_cases.proofs.question.run_gaps.Tie as tie
+use Rattle.pairs.proofs.question.run_gaps.Statement.{statement}
+use Rattle.pairs.proofs.question.run_gaps.Tie as tie
 
 abbrev Inv-loop : tie.InvT-loop
 Inv-loop first second count k₀ k = k ≤ 8

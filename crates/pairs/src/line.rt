@@ -1,5 +1,5 @@
 // The lines of the text: `first NAME: BYTES` and `second NAME: BYTES` are the tables at hand from there on, `compare NAME` compares
-// the first against the second, and `turned NAME` the second against the first.
+// the first against the second, and `turned NAME` the second against the first. A line that begins with `- ` is printed.
 use crate::question::run_pair;
 use cases::laying::lay_words;
 use cases::text::begins_with;
@@ -33,6 +33,12 @@ fn lay_table(line: &[u8], table: &mut [u8]) -> usize {
     0
 }
 
+// Words between the comparisons, set apart by an empty line.
+fn print_words(line: &[u8]) {
+    io::write_all(1, b"\n");
+    io::write_all(1, line);
+}
+
 fn run_comparison(line: &[u8], first: &[u8], second: &[u8]) {
     if begins_with(line, b"compare ") {
         run_pair(name_of(line), first, second);
@@ -42,8 +48,12 @@ fn run_comparison(line: &[u8], first: &[u8], second: &[u8]) {
     }
 }
 
-// Runs one line and gives the sizes of the tables at hand. A line that begins with none of the four words does nothing.
+// Runs one line and gives the sizes of the tables at hand. A line that begins in none of these ways does nothing.
 fn run_line(line: &[u8], first: &mut [u8], second: &mut [u8], sizes: Sizes) -> Sizes {
+    if begins_with(line, b"- ") {
+        print_words(line);
+        return sizes;
+    }
     if begins_with(line, b"first ") {
         return Sizes {
             first: lay_table(line, first),

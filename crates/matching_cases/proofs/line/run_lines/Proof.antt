@@ -3,14 +3,14 @@ use Prim.Native.Nat.{_-_, _≤_}
 use mathlib.Core.Path.{_≡_}
 use lib.ListN.{length}
 use borrow.Author.Needs.{needs}
-use Rattle.comparing_cases.proofs.line.run_lines.Statement.{statement}
-use Rattle.comparing_cases.proofs.line.run_lines.Tie as tie
+use Rattle.matching_cases.proofs.line.run_lines.Statement.{statement}
+use Rattle.matching_cases.proofs.line.run_lines.Tie as tie
 
 abbrev Inv-loop : tie.InvT-loop
-Inv-loop text first₀ second₀ sizes₀ at₀ first second sizes at = (at ≤ length text) × (length first ≡ length first₀) × (length second ≡ length second₀)
+Inv-loop text room₀ at₀ room at = (at ≤ length text) × (length room ≡ length room₀)
 
 abbrev μ-loop : tie.MeasureT-loop
-μ-loop text first₀ second₀ sizes₀ at₀ first second sizes at = length text - at
+μ-loop text room₀ at₀ room at = length text - at
 
 loop-holds : tie.Need-loop-holds Inv-loop μ-loop
 loop-holds c = search needs
@@ -39,9 +39,6 @@ loop-again c = search needs
 same-length : tie.Need-same-length Inv-loop μ-loop
 same-length c = search needs
 
-same-length-2 : tie.Need-same-length-2 Inv-loop μ-loop
-same-length-2 c = search needs
-
 returns : tie.Need-returns Inv-loop μ-loop
 returns c = search needs
 
@@ -60,5 +57,4 @@ run-lines-spec =
     loop-less
     loop-again
     same-length
-    same-length-2
     returns)

@@ -1,7 +1,7 @@
 // The two questions about a pair of tables, each with a workspace of its own that is full of ones before and must be zero afterwards.
 use crate::print::print_refused;
 use crate::print::print_shape;
-use crate::same::are_words;
+use cases::same::are_words;
 use comparing::answers::Counting;
 use comparing::answers::Showing;
 use comparing::compare::gap;
@@ -88,7 +88,7 @@ fn number_of(answer: Counting) -> u64 {
 }
 
 // Compares the first table against the second: the number of gaps, and the first of them.
-pub fn run_pair(name: &[u8], first: &[u8], second: &[u8]) {
+pub(crate) fn run_pair(name: &[u8], first: &[u8], second: &[u8]) {
     let answer = counting_of(first, second);
     io::write_all(1, name);
     print_counting(answer);
