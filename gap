@@ -2,7 +2,7 @@
 # Compares two access tables and prints what the first allows and the second does not: builds the program `gaps` where that is
 # needed, and runs it. What this script says itself goes to standard error; standard output has the program's lines alone.
 set -u
-here=$(cd "$(dirname "${BASH_SOURCE[0]}")" && pwd -P) || exit 2
+here=$(dirname "$(readlink -f "${BASH_SOURCE[0]}")") || exit 2
 program=$here/target/bin/gaps
 built=$here/target/gap-built
 
@@ -28,7 +28,7 @@ An example:
 The first table allows everyone each action that matches `a*` on the resource `r`, the second the action `ab` alone. The shortest
 action that is lost has one letter, and since actions ignore case the first in order is `A`. For everyone stands the first
 principal there is, `!`.
-examples/README.md has four more.
+examples/README.md has more.
 TEXT
 }
 
@@ -78,8 +78,10 @@ note_first() { # FILE NAME
 build() {
     [ -x "$program" ] && [ -e "$built" ] && [ -z "$(find "$here/crates" "$here/crates.txt" -newer "$built" -print | head -n 1)" ] && return
     command -v rt >/dev/null 2>&1 || fail "the Rattle toolchain is not installed: its command rt is not on the PATH"
-    echo "gap: proving and building the program (rt check gaps); the first time this takes some minutes" >&2
-    (cd "$here" && rt check gaps) >&2 || fail "the program was not built"
+    mkdir -p "$here/target" || fail "there is no folder $here/target"
+    echo "gap: proving and building the program (rt check gaps); the first time this takes five to ten minutes" >&2
+    (cd "$here" && set -o pipefail && rt check gaps 2>&1 | tee target/gap.log | grep --line-buffered '^rt:' >&2) ||
+        fail "the program was not built; $here/target/gap.log says why"
     touch "$built"
 }
 
