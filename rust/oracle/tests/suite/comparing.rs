@@ -38,7 +38,7 @@ fn one_gap_by_number_and_in_the_buffer() {
 #[test]
 fn order_of_the_refusals_of_comparing() {
     let refused = |number, place| Err(CompareRefusal { number, table: 0, place });
-    let conditions = |listed: &[Vec<u8>]| table(&[allow_when(listed)]);
+    let conditions = |listed: &[List]| table(&[allow_when(listed)]);
     // 10 of a late column comes before 11 of an early one.
     let many_states = resources(&["*a????????"]);
     let long = "v".repeat(128);

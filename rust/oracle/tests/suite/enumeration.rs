@@ -1,10 +1,12 @@
 //! The gap list against plain enumeration: short requests through the judge alone.
 
-use crate::build::*;
+use crate::build::{self, *};
 use oracle::compare::Shown;
 use oracle::judge::judge_table;
 use oracle::table::{Effect, Element, Statement, Table};
 use oracle::{compare, read, Comparison, Gap, Request, Verdict, Writer};
+use support::random::Random;
+use support::strings::short_strings;
 
 /// A value of one column.
 #[derive(Clone, Debug, PartialEq)]
@@ -25,19 +27,6 @@ fn with(mut request: Request, column: usize, value: &Admitted) -> Request {
         (_, _) => request.keys[column - 3] = None,
     }
     request
-}
-
-/// Strings of at most `longest` bytes in their order. `!` stands for all bytes that occur in no value.
-fn short_strings(longest: usize) -> Vec<Vec<u8>> {
-    let mut strings = vec![vec![]];
-    let mut at = 0;
-    while at < strings.len() && strings[at].len() < longest {
-        for &byte in b"!*?ABab" {
-            strings.push([&strings[at][..], &[byte]].concat());
-        }
-        at += 1;
-    }
-    strings
 }
 
 /// Addresses around every border that the random networks have.
@@ -111,14 +100,14 @@ fn product(columns: &[Vec<Admitted>]) -> impl Iterator<Item = Request> + '_ {
 }
 
 fn random_values<'a>(random: &mut Random, from: &[&'a str], most: usize) -> Vec<&'a str> {
-    (0..1 + random.below(most)).map(|_| *random.pick(from)).collect()
+    (0..1 + random.below(most)).map(|_| random.pick(from)).collect()
 }
 
 const WILD: [&str; 14] = ["*", "?", "a", "b", "A", "ab", "a*", "*b", "?a", "*a*", "b?", "a?", "B*", "??"];
 const NAMES: [&str; 5] = ["*", "a", "b", "ab", "B"];
 
-fn random_condition(random: &mut Random) -> Vec<u8> {
-    let form = *random.pick(&[0, 0x10]);
+fn random_condition(random: &mut Random) -> List {
+    let form = random.pick(&[0, 0x10]);
     if random.below(3) > 0 {
         let operator = 1 + random.below(4) as u8;
         let key = random.below(2) as u8 * 3;
@@ -134,7 +123,7 @@ fn random_condition(random: &mut Random) -> Vec<u8> {
         ([255, 255, 255, 254], 31),
         ([255, 255, 255, 255], 32),
     ];
-    let listed: Vec<_> = (0..1 + random.below(2)).map(|_| *random.pick(&networks_near)).collect();
+    let listed: Vec<_> = (0..1 + random.below(2)).map(|_| random.pick(&networks_near)).collect();
     networks(form + 5 + random.below(2) as u8, &listed)
 }
 
@@ -144,15 +133,15 @@ fn random_table(random: &mut Random) -> Vec<u8> {
         let effect = u8::from(random.below(3) > 0);
         let mut not = |code: u8| if random.below(4) == 0 { code + 0x10 } else { code };
         let codes = [not(0), not(1), not(2)];
-        let mut parts = vec![
-            column(codes[0], &random_values(random, &NAMES, 2)),
-            column(codes[1], &random_values(random, &WILD, 2)),
-            column(codes[2], &random_values(random, &WILD, 2)),
+        let mut lists = vec![
+            element(codes[0], &random_values(random, &NAMES, 2)),
+            element(codes[1], &random_values(random, &WILD, 2)),
+            element(codes[2], &random_values(random, &WILD, 2)),
         ];
         for _ in 0..random.below(3) {
-            parts.push(random_condition(random));
+            lists.push(random_condition(random));
         }
-        statements.push(statement(effect, &parts));
+        statements.push(build::Statement { effect, lists });
     }
     table(&statements)
 }

@@ -18,7 +18,7 @@ fn greedy_pieces_that_may_overlap() {
 
 #[test]
 fn folding_case_outside_actions() {
-    let table = table(&[[simple(ALLOW, "Ab", "Ab", "Ab"), strings(1, 0, &["Ab"])].concat()]);
+    let table = table(&[simple(ALLOW, "Ab", "Ab", "Ab").when(&[strings(1, 0, &["Ab"])])]);
     let asked = |principal: &str, action: &str, resource: &str, key: &str| {
         let keys = [Some(key.into()), None, None, None];
         judge(&table, &Request { keys, ..request(principal, action, resource) })
@@ -80,7 +80,7 @@ fn only_bytes_that_occur_in_some_value() {
     // Every byte but the highest is denied by name, so the one that is left occurs nowhere.
     let named: Vec<String> = (0x21..0x7E).map(|byte: u8| (byte as char).to_string()).collect();
     let named: Vec<&str> = named.iter().map(String::as_str).collect();
-    let deny = |listed: &[&str]| [simple(DENY, "*", "*", "*"), strings(1, 0, listed)].concat();
+    let deny = |listed: &[&str]| simple(DENY, "*", "*", "*").when(&[strings(1, 0, listed)]);
     let one_byte = allow_when(&[strings(3, 0, &["?"])]);
     let first = table(&[one_byte, deny(&named[..50]), deny(&named[50..])]);
     assert_eq!(printed(&first, &NOTHING), "gaps 1\n0 p=! a=! r=! k0=~\n");
@@ -88,8 +88,10 @@ fn only_bytes_that_occur_in_some_value() {
 
 #[test]
 fn stopping_the_states_at_the_longest_value() {
-    let deny_not =
-        |value: &str| statement(DENY, &[column(0, &["*"]), column(1, &["*"]), column(0x12, &[value])]);
+    let deny_not = |value: &str| Statement {
+        effect: DENY,
+        lists: vec![element(0, &["*"]), element(1, &["*"]), element(0x12, &[value])],
+    };
     let first = table(&[simple(ALLOW, "*", "*", "*"), deny_not("*cd*"), deny_not("*ab*"), deny_not("*ef*")]);
     assert_eq!(printed(&first, &NOTHING), "gaps 1\n0 p=! a=! r=abcdef\n");
 }

@@ -54,8 +54,8 @@ fn input_over_32768_bytes() {
 #[test]
 fn sixteen_gaps_are_printed_and_all_are_counted() {
     // The second table asks for one resource of two and for `a` in all four keys: 2 to the fifth kinds, less one.
-    let all_keys: Vec<Vec<u8>> = (0..4).map(|key| strings(1, key, &["a"])).collect();
-    let narrow = [simple(ALLOW, "*", "*", "b"), all_keys.concat()].concat();
+    let all_keys: Vec<List> = (0..4).map(|key| strings(1, key, &["a"])).collect();
+    let narrow = simple(ALLOW, "*", "*", "b").when(&all_keys);
     let printed = compared(&table(&[allow_when(&[])]), &table(&[narrow]));
     let lines: Vec<&str> = printed.lines().collect();
     assert_eq!(lines.len(), 17);
@@ -74,7 +74,7 @@ fn all_columns_in_one_line() {
         strings(1, 2, &["*"]),
         networks(5, &[([200, 1, 0, 0], 16)]),
     ];
-    let first = table(&[[simple(ALLOW, "arn", "s3:Get*", "b/?"), conditions.concat()].concat()]);
+    let first = table(&[simple(ALLOW, "arn", "s3:Get*", "b/?").when(&conditions)]);
     let expected = "gaps 1\n0 p=arn a=S3:GET r=b/! k0=vpc k1=! k2=* ip=200.1.0.0\n";
     assert_eq!(compared(&first, &NOTHING), expected);
 }

@@ -23,11 +23,11 @@ fn a_deny_that_applies_decides() {
 fn elements_and_not_forms() {
     let with = |code: u8| {
         let listed: &[&str] = &["a", "b"];
-        let columns = [0, 1, 2].map(|plain| match plain == code & 0x0F {
-            true => column(code, listed),
-            false => column(plain, &["*"]),
+        let lists = [0, 1, 2].map(|plain| match plain == code & 0x0F {
+            true => element(code, listed),
+            false => element(plain, &["*"]),
         });
-        table(&[statement(ALLOW, &columns)])
+        table(&[Statement { effect: ALLOW, lists: lists.to_vec() }])
     };
     for plain in 0..3 {
         for (string, holds) in [("a", true), ("b", true), ("c", false)] {
@@ -44,7 +44,7 @@ fn elements_and_not_forms() {
 /// Every operator code on a matching, an unmatched and an absent key.
 #[test]
 fn operators() {
-    let allowed = |conditions: &[Vec<u8>], asked: &Request| {
+    let allowed = |conditions: &[List], asked: &Request| {
         judge(&table(&[allow_when(conditions)]), asked) == Ok(Verdict::Allowed)
     };
     for operator in 1..=4u8 {

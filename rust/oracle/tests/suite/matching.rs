@@ -1,9 +1,10 @@
 //! Matching against the rule read literally, and states against matching.
 
-use crate::build::Random;
 use oracle::compare::states::{explore, state_of_empty, step};
 use oracle::matching::{matches, network_holds, symbols, symbols_match, Reading, Symbol};
 use oracle::table::Network;
+use support::random::Random;
+use support::strings::all_strings;
 
 const READINGS: [Reading; 4] = [Reading::Fold, Reading::Plain, Reading::Literal, Reading::Principal];
 
@@ -15,21 +16,6 @@ fn literally(value: &[Symbol], string: &[u8]) -> bool {
         (Some(symbol), Some(&byte)) => symbol.takes(byte) && literally(&value[1..], &string[1..]),
         (Some(_), None) => false,
     }
-}
-
-/// All strings over an alphabet of at most this length, the shorter first.
-fn all_strings(alphabet: &[u8], longest: usize) -> Vec<Vec<u8>> {
-    let mut strings = vec![vec![]];
-    let mut at = 0;
-    while at < strings.len() {
-        if strings[at].len() < longest {
-            for &byte in alphabet {
-                strings.push([&strings[at][..], &[byte]].concat());
-            }
-        }
-        at += 1;
-    }
-    strings
 }
 
 #[test]
@@ -60,7 +46,7 @@ fn a_state_is_the_set_of_matching_beginnings() {
     let mut random = Random::new(1);
     for _ in 0..300 {
         let values: Vec<Vec<Symbol>> = (0..1 + random.below(3)).map(|_| random_value(&mut random)).collect();
-        let string: Vec<u8> = (0..random.below(7)).map(|_| *random.pick(b"abAB!")).collect();
+        let string: Vec<u8> = (0..random.below(7)).map(|_| random.pick(b"abAB!")).collect();
         let state = string.iter().fold(state_of_empty(&values), |state, &byte| step(&values, &state, byte));
         let beginnings = values.iter().flat_map(|value| (0..=value.len()).map(|j| &value[..j]));
         let expected: Vec<bool> = beginnings.map(|beginning| symbols_match(beginning, &string)).collect();
@@ -69,8 +55,8 @@ fn a_state_is_the_set_of_matching_beginnings() {
 }
 
 fn random_value(random: &mut Random) -> Vec<Symbol> {
-    let value: Vec<u8> = (0..1 + random.below(5)).map(|_| *random.pick(b"aabB**?")).collect();
-    symbols(&value, *random.pick(&READINGS))
+    let value: Vec<u8> = (0..1 + random.below(5)).map(|_| random.pick(b"aabB**?")).collect();
+    symbols(&value, random.pick(&READINGS))
 }
 
 #[test]

@@ -2,6 +2,7 @@
 
 use crate::build::*;
 use oracle::{read, read_items, Refusal, Table};
+use support::random::Random;
 
 fn refused(bytes: &[u8]) -> (u8, usize) {
     let Refusal { number, place } = read(bytes).expect_err("a refusal");
@@ -236,7 +237,7 @@ fn damaged_tables() {
             let at = random.below(bytes.len());
             match random.below(4) {
                 0 => drop(bytes.remove(at)),
-                1 => bytes.insert(at, *random.pick(&[1, 2, 3, 4, 5, 6, 7, 0x40, 0x41, b'*'])),
+                1 => bytes.insert(at, random.pick(&[1, 2, 3, 4, 5, 6, 7, 0x40, 0x41, b'*'])),
                 _ => bytes[at] = random.below(256) as u8,
             }
         }

@@ -1,8 +1,8 @@
 //! Writing: refusals as the reader's, then 1, then 14; the round trip.
 
-use crate::build::*;
 use oracle::table::{Effect, ElementColumn, Key, Network, Operator, Test};
 use oracle::{read, read_items, Item, Refusal, Writer};
+use support::random::Random;
 
 fn column_item(column: ElementColumn) -> Item {
     Item::Column { column, negated: false }
@@ -118,15 +118,15 @@ fn a_table_of_16384_bytes_is_written_and_read() {
 fn random_item(random: &mut Random) -> Item {
     match random.below(9) {
         0 => Item::Start(random.below(35) as u8),
-        1 => Item::Statement(*random.pick(&[Effect::Deny, Effect::Allow])),
-        2 => Item::Column { column: *random.pick(&ElementColumn::ALL), negated: random.below(2) == 1 },
+        1 => Item::Statement(random.pick(&[Effect::Deny, Effect::Allow])),
+        2 => Item::Column { column: random.pick(&ElementColumn::ALL), negated: random.below(2) == 1 },
         3 => Item::Condition {
             operator: Operator {
-                test: *random.pick(&[Test::StringEquals, Test::StringLike, Test::IpAddress]),
+                test: random.pick(&[Test::StringEquals, Test::StringLike, Test::IpAddress]),
                 negated: random.below(2) == 1,
                 if_exists: random.below(2) == 1,
             },
-            key: *random.pick(&Key::ALL),
+            key: random.pick(&Key::ALL),
         },
         4 => Item::End,
         5 => Item::Network(Network {

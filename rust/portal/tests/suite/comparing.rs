@@ -1,11 +1,11 @@
 //! Pairs of good tables, drawn small with many overlaps: the number of gaps, and the gaps to the last byte.
 
 use crate::agree::compared;
-use crate::build::*;
 use crate::counts::{CHANGED_PAIRS, DRAWN_PAIRS, WILD_PAIRS};
 use crate::draw::{self, Shape, MEDIUM, SMALL, TINY};
-use crate::random::Random;
 use portal::compare;
+use support::build::*;
+use support::random::Random;
 
 /// Gaps asked for beside the last: up to this many of one pair in `ALL_ASKED_EACH`, of the others a few.
 const MOST_ASKED: usize = 64;

@@ -1,8 +1,8 @@
 //! Ways to damage a table: among its bytes and among its records.
 
-use crate::build::{records, value, Statement};
 use crate::draw;
-use crate::random::Random;
+use support::build::{records, value, Statement};
+use support::random::Random;
 
 /// Bytes at the borders of what the stored form tells apart.
 const BORDERS: [u8; 38] = [

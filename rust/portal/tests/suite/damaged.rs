@@ -4,7 +4,7 @@ use crate::agree::{compared, judged};
 use crate::counts::{DAMAGED_PAIRS, DAMAGED_TABLES, GARBAGE};
 use crate::damage::{damage_bytes, damaged, garbage};
 use crate::draw::{self, Shape, MEDIUM, SMALL, TINY};
-use crate::random::Random;
+use support::random::Random;
 
 /// How often each refusal number came, 0 standing for an answer.
 type Seen = [usize; 16];
@@ -37,7 +37,7 @@ fn every_cut_of_a_table_judges_alike() {
     for _ in 0..40 {
         let statements = draw::statements(&mut random, &MEDIUM);
         let request = draw::request(&mut random, &statements, &MEDIUM);
-        let table = crate::build::table(&statements);
+        let table = support::build::table(&statements);
         for length in 0..table.len() {
             assert_eq!(judged(&table[..length], &request.request()).unwrap_err().number, 2);
         }
@@ -55,7 +55,7 @@ fn every_byte_at_every_place_judges_alike() {
         }
     };
     let request = draw::request(&mut random, &statements, &SMALL);
-    let table = crate::build::table(&statements);
+    let table = support::build::table(&statements);
     for at in 0..table.len() {
         for byte in 0..=255 {
             let mut changed = table.clone();
@@ -81,7 +81,7 @@ fn damaged_pairs_compare_alike() {
     let mut by_table = [0; 3];
     for case in 0..DAMAGED_PAIRS {
         let statements = draw::statements(&mut random, &TINY);
-        let mut first = crate::build::table(&statements);
+        let mut first = support::build::table(&statements);
         let changed = draw::statements_like(&mut random, &statements, &TINY);
         let mut second = damaged(&mut random, &changed);
         match case % 4 {

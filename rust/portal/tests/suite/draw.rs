@@ -1,8 +1,8 @@
 //! Tables and requests drawn at random, small alphabets so that values and strings meet often.
 
-use crate::build::*;
-use crate::random::Random;
 use portal::Request;
+use support::build::*;
+use support::random::Random;
 
 /// Bounds within which a table is drawn.
 pub struct Shape {
@@ -51,7 +51,7 @@ pub fn statements(random: &mut Random, shape: &Shape) -> Vec<Statement> {
 }
 
 pub fn table(random: &mut Random, shape: &Shape) -> Vec<u8> {
-    crate::build::table(&statements(random, shape))
+    support::build::table(&statements(random, shape))
 }
 
 fn statement(random: &mut Random, shape: &Shape) -> Statement {

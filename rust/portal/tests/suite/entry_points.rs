@@ -1,10 +1,10 @@
 //! The entry points themselves: what they do not look at, and what they do not touch.
 
 use crate::agree::{lent_buffer, raw, refusal_number};
-use crate::build::*;
 use oracle::CompareRefusal;
 use portal::ffi::{self, RawRequest, VALUES_BYTES};
 use portal::{compare, Refusal};
+use support::build::*;
 
 const ALLOWED: u64 = 1;
 const NOT_MENTIONED: u64 = 0;

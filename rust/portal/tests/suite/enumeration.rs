@@ -1,9 +1,10 @@
 //! The gap list against plain enumeration: short requests through the judge, without the oracle.
 
-use crate::build::*;
 use crate::draw::{self, Drawn, Shape};
-use crate::random::Random;
 use portal::{compare, judge, Gap, Gaps, Verdict};
+use support::build::*;
+use support::random::Random;
+use support::strings::short_strings;
 
 /// Few enough strings to try all of them.
 const SHAPE: Shape = Shape { statements: 2, conditions: 2, listed: 2, length: 2, bytes: b"aAb*?" };
@@ -19,19 +20,6 @@ enum Admitted {
     // The order of document 01: shorter first, then smaller bytes.
     String(usize, Vec<u8>),
     Address(u32),
-}
-
-/// Strings of at most `longest` bytes; `!` stands for all bytes that occur in no value.
-fn short_strings(longest: usize) -> Vec<Vec<u8>> {
-    let mut strings = vec![vec![]];
-    let mut at = 0;
-    while at < strings.len() && strings[at].len() < longest {
-        for &byte in b"!*?ABab" {
-            strings.push([&strings[at][..], &[byte]].concat());
-        }
-        at += 1;
-    }
-    strings
 }
 
 /// The values of a column in their order: short strings, and addresses at the borders of the networks listed.

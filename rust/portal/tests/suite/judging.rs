@@ -3,8 +3,8 @@
 use crate::agree::judged;
 use crate::counts::{FAULTY_REQUESTS, JUDGED_TABLES, REQUESTS_EACH};
 use crate::draw::{self, Shape, LARGE, MEDIUM, SMALL, TINY};
-use crate::random::Random;
 use portal::Verdict;
+use support::random::Random;
 
 fn shape_of(case: usize) -> &'static Shape {
     match case % 16 {
@@ -22,7 +22,7 @@ fn drawn_tables_judge_alike() {
     for case in 0..JUDGED_TABLES {
         let shape = shape_of(case);
         let statements = draw::statements(&mut random, shape);
-        let table = crate::build::table(&statements);
+        let table = support::build::table(&statements);
         for _ in 0..REQUESTS_EACH {
             let request = draw::request(&mut random, &statements, shape);
             let verdict = judged(&table, &request.request()).unwrap();
@@ -52,7 +52,7 @@ fn faulty_requests_judge_alike() {
                 string.insert(at, random.pick(&OUT_OF_RANGE));
             }
         }
-        let table = crate::build::table(&statements);
+        let table = support::build::table(&statements);
         if let Err(refusal) = judged(&table, &request.request()) {
             assert_eq!(refusal.number, 9);
             by_column[refusal.place as usize] += 1;
@@ -66,7 +66,7 @@ fn faulty_requests_judge_alike() {
 fn every_byte_in_every_column_judges_alike() {
     let mut random = Random::new(13);
     let statements = draw::statements(&mut random, &SMALL);
-    let table = crate::build::table(&statements);
+    let table = support::build::table(&statements);
     for column in 0..7 {
         for byte in 0..=255 {
             let mut request = draw::request(&mut random, &statements, &SMALL);
@@ -83,8 +83,8 @@ fn every_byte_in_every_column_judges_alike() {
 #[test]
 fn every_action_byte_against_every_action_byte() {
     for listed in 0x21..=0x7E_u8 {
-        let table = crate::build::table(&[crate::build::statement(
-            crate::build::ALLOW,
+        let table = support::build::table(&[support::build::statement(
+            support::build::ALLOW,
             &["*"],
             &[&(listed as char).to_string()],
             &["*"],

@@ -1,8 +1,8 @@
 //! Tables at every limit of document 01, and one past it.
 
 use crate::agree::{compared, judged};
-use crate::build::*;
 use portal::{Refusal, Request, Verdict};
+use support::build::*;
 
 fn refused(number: u16, table: u16, place: usize) -> Refusal {
     Refusal { number, table, place: place as u32 }

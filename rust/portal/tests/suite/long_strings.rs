@@ -1,10 +1,10 @@
 //! Requests have no upper length, and shown values may be long.
 
 use crate::agree::{compared, judged};
-use crate::build::*;
 use crate::draw::{self, Shape};
-use crate::random::Random;
 use portal::{compare, Request, Verdict};
+use support::build::*;
+use support::random::Random;
 
 /// Values of up to 128 bytes with many wildcards against strings of thousands of bytes made from them.
 #[test]

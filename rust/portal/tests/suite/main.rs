@@ -2,7 +2,6 @@
 
 mod agree;
 mod bench_list;
-mod build;
 mod comparing;
 mod counts;
 mod damage;
@@ -13,5 +12,4 @@ mod enumeration;
 mod judging;
 mod limits;
 mod long_strings;
-mod random;
 mod words;

@@ -1,9 +1,9 @@
 //! The texts of answers, refusals and gaps.
 
 use crate::draw::{self, SMALL};
-use crate::random::Random;
 use oracle::gaps_program;
 use portal::{compare, Refusal, Verdict};
+use support::random::Random;
 
 fn text(number: u16, table: u16, place: u32) -> String {
     Refusal { number, table, place }.to_string()

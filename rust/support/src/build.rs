@@ -55,11 +55,14 @@ pub fn statement(effect: u8, principals: &[&str], actions: &[&str], resources: &
     Statement { effect, lists: vec![element(0, principals), element(1, actions), element(2, resources)] }
 }
 
+/// A statement with one value in each element.
+pub fn simple(effect: u8, principal: &str, action: &str, resource: &str) -> Statement {
+    statement(effect, &[principal], &[action], &[resource])
+}
+
 /// An allow statement for everything under some conditions.
 pub fn allow_when(conditions: &[List]) -> Statement {
-    let mut statement = statement(ALLOW, &["*"], &["*"], &["*"]);
-    statement.lists.extend_from_slice(conditions);
-    statement
+    simple(ALLOW, "*", "*", "*").when(conditions)
 }
 
 /// An allow statement that restricts one of columns 0 to 6 alone; keys by StringLike.
@@ -93,6 +96,14 @@ pub fn table(statements: &[Statement]) -> Vec<u8> {
 /// A table of one allow statement that restricts the resource alone.
 pub fn resources(listed: &[&str]) -> Vec<u8> {
     table(&[allow_in_column(2, listed)])
+}
+
+impl Statement {
+    /// The statement with some conditions more.
+    pub fn when(mut self, conditions: &[List]) -> Statement {
+        self.lists.extend_from_slice(conditions);
+        self
+    }
 }
 
 impl List {
