@@ -111,7 +111,7 @@ fn run_addresses() {
     );
 }
 
-pub fn run_marked() {
+pub(crate) fn run_marked() {
     io::write_all(1, b"The bench list of document 01, and what came out.\n");
     run_values();
     run_addresses();

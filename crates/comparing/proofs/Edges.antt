@@ -16,11 +16,9 @@ use Rattle.matching.specs.Network.{agree, networkLow, networkHigh}
 use Rattle.matching.proofs.Networks.{in-range}
 use Rattle.judging.specs.Requests.{Value, number}
 use Rattle.judging.specs.Meaning.{listedMatches, sense, operatorReading, conditionHolds, conditionColumn, elementIn, conditionIn, holds}
-use Rattle.comparing.specs.Order.{In}
 use Rattle.comparing.specs.Gaps.{footprint, Alike}
 use Rattle.comparing.specs.Columns.{networksOf, conditionNetworks, networksIn}
 use Rattle.comparing.specs.Search.{above, nextEdge}
-use Rattle.comparing.proofs.Members.{agree-in}
 use Rattle.comparing.proofs.ColumnContents.{place-low}
 
 -- an end above x is above x, and x is below what is taken for none
@@ -116,9 +114,6 @@ module _ (x y : ℕ) (up : x ≤ y) where
   between-edges (s ∷ rows) h =
       let parts = edge-append (conditionNetworks (s .conditions)) (networksIn rows) x in
       ap₂ _∷_ (statement-between s (omega arith)) (between-edges rows (omega arith))
-
-  pub holds-between : (rows : List Statement) (s : Statement) → In s rows → y < nextEdge (networksIn rows) x → holds 7 (number y) s ≡ holds 7 (number x) s
-  holds-between rows s i h = agree-in (holds 7 (number y)) (holds 7 (number x)) rows (between-edges rows h) s i
 
   -- addresses between two edges are alike
   pub alike-between : (first second : List Statement) → y < nextEdge (networksIn (first ++ second)) x → Alike first second 7 (number y) (number x)

@@ -1,9 +1,9 @@
 -- The walk over a table with a state in place of a string ends where the walk with the string does: the codes of the values still to come
 -- stand from the walk's position on, so that a value's last position is in the row exactly when the value matches the string.
-use Prim.Native.Nat.{ℕ, _+_, _*_, _^_, _≤_}
+use Prim.Native.Nat.{ℕ, _+_, _≤_}
 use mathlib.Core.Path.{_≡_, refl, sym, _∙_, ap, ap₂, subst}
 use mathlib.Core.Bool.{Bool, true, false, not, _&&_, and-true, and-false}
-use mathlib.Core.List.{List, [], _∷_, _++_, append-assoc, append-nil}
+use mathlib.Core.List.{List, [], _∷_, _++_, append-assoc}
 use native.Mathlib.Omega.{arith}
 use lib.Dec.{eqb}
 use lib.ListN.{length, length-append, length-map}
@@ -24,12 +24,10 @@ use Rattle.judging.specs.Requests.{text}
 use Rattle.judging.specs.Meaning.{elementReading, operatorReading, holds}
 use Rattle.judging.specs.Rows.{rowsWord}
 use Rattle.judging.specs.Walk.{freshWalk, doneOf, beganOf, mattersOf, seenOf, elementBegun, conditionBegun, stepOf, runOf}
-use Rattle.judging.proofs.RowSets.{joined}
 use Rattle.judging.proofs.Walking.{walk-means}
 use Rattle.comparing.specs.Columns.{valuesIn}
-use Rattle.comparing.specs.Product.{printOf}
 use Rattle.comparing.specs.Contents.{texts, contentsFrom}
-use Rattle.comparing.specs.Search.{mostStates, stateStep, positionBehind, runState}
+use Rattle.comparing.specs.Search.{mostStates, stateStep, runState}
 use Rattle.comparing.proofs.ColumnContents.{walk-contents, texts-in}
 use Rattle.comparing.proofs.Widths.{values-append}
 
@@ -153,25 +151,3 @@ pub codes-both : (column : ℕ) (first second : List Statement)
     → codesOf (valuesIn column (first ++ second)) ≡ codesOf (valuesIn column first) ++ codesOf (valuesIn column second)
 codes-both column first second =
     ap codesOf (values-append column first second) ∙ codes-append (valuesIn column first) (valuesIn column second)
-
--- Of two tables, the second's rows stand behind the first's, and so do the codes of its values.
-pub state-footprint : (column : ℕ) (es fs : List Entry) → Accepted es → Accepted fs → length (tableOf es) ≤ 64 → length (tableOf fs) ≤ 64
-    → (s row : List ℕ) → length (codesOf (valuesIn column (tableOf es ++ tableOf fs))) ≤ mostStates
-    → row ≡ rowOf (codesOf (valuesIn column (tableOf es ++ tableOf fs))) s
-    → doneOf (runState column row freshWalk 0 es)
-    + 2 ^ length (tableOf es) * doneOf (runState column row freshWalk (length (codesOf (valuesIn column (tableOf es)))) fs)
-    ≡ printOf (tableOf es) (tableOf fs) column (text s)
-state-footprint column es fs ok also few more s row fits is =
-    ap₂ (λ (m n : ℕ). m + 2 ^ length (tableOf es) * n)
-    (state-walk-means column es ok few s row [] (codesOf (valuesIn column (tableOf fs)))
-    (subst (λ (codes : List ℕ). length codes ≤ mostStates) both fits) (is ∙ ap (λ (codes : List ℕ). rowOf codes s) both))
-    (state-walk-means column fs also more s row (codesOf (valuesIn column (tableOf es))) []
-    (subst (λ (codes : List ℕ). length codes ≤ mostStates) last fits) (is ∙ ap (λ (codes : List ℕ). rowOf codes s) last))
-    ∙ sym (joined (holds column (text s)) (tableOf es) (tableOf fs))
-  where
-    both : codesOf (valuesIn column (tableOf es ++ tableOf fs)) ≡ codesOf (valuesIn column (tableOf es)) ++ codesOf (valuesIn column (tableOf fs))
-    both = codes-both column (tableOf es) (tableOf fs)
-
-    last : codesOf (valuesIn column (tableOf es ++ tableOf fs))
-        ≡ codesOf (valuesIn column (tableOf es)) ++ (codesOf (valuesIn column (tableOf fs)) ++ [])
-    last = both ∙ ap (λ (l : List ℕ). codesOf (valuesIn column (tableOf es)) ++ l) (sym (append-nil (codesOf (valuesIn column (tableOf fs)))))

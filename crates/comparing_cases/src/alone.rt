@@ -104,7 +104,7 @@ fn run_long_values(name: &[u8], first: &[u8], second: &[u8], k: u64) {
     show_in(name, &mut words, first, second, k, &mut values);
 }
 
-pub fn run_buffers() {
+pub(crate) fn run_buffers() {
     let first = b"\x01\x01\x02\x01\x03\x00@*\x03\x01Aa*\x03\x02@r\x05";
     let second = b"\x01\x01\x02\x01\x03\x00@*\x03\x01Aab\x03\x02@r\x05";
     run_workspaces(first, second);

@@ -43,7 +43,7 @@ fn is_faulty_key(present: bool, string: &[u8]) -> bool
 }
 
 // The lowest faulty column of a request, or the number of columns.
-pub fn first_fault(
+pub(crate) fn first_fault(
     principal: &[u8],
     action: &[u8],
     resource: &[u8],

@@ -89,7 +89,7 @@ pub fn key_column(key: Key) -> usize
 }
 
 // An element opens.
-pub fn element_begun(walk: Walk, name: Column, column: usize) -> Walk
+pub(crate) fn element_begun(walk: Walk, name: Column, column: usize) -> Walk
     ensures { λ r. ⌜ r ≡ elementBegun column name walk ⌝ }
 {
     let here = column_place(name) == column;
@@ -103,7 +103,7 @@ pub fn element_begun(walk: Walk, name: Column, column: usize) -> Walk
 }
 
 // A condition opens.
-pub fn condition_begun(
+pub(crate) fn condition_begun(
     walk: Walk,
     operator: Operator,
     key: Key,

@@ -20,7 +20,7 @@ pub struct Walk {
 }
 
 // Before the first statement.
-pub fn fresh_walk() -> Walk
+pub(crate) fn fresh_walk() -> Walk
     ensures { λ r. ⌜ r ≡ freshWalk ⌝ }
 {
     Walk {
@@ -52,7 +52,7 @@ fn closed(walk: Walk) -> bool
 }
 
 // The rows gathered, the row at hand closed.
-pub fn done(walk: Walk) -> u64
+pub(crate) fn done(walk: Walk) -> u64
     ensures { λ r. ⌜ r ≡ doneOf walk ⌝ }
 {
     if closed(walk) {
@@ -62,7 +62,7 @@ pub fn done(walk: Walk) -> u64
 }
 
 // A statement begins, which counts or not.
-pub fn began(walk: Walk, counts: bool) -> Walk
+pub(crate) fn began(walk: Walk, counts: bool) -> Walk
     ensures { λ r. ⌜ r ≡ beganOf counts walk ⌝ }
 {
     let set = done(walk);
@@ -116,7 +116,7 @@ pub(crate) fn condition_opened(
 }
 
 // Whether a listed value matches can still matter.
-pub fn matters(walk: Walk) -> bool
+pub(crate) fn matters(walk: Walk) -> bool
     ensures { λ r. ⌜ r ≡ mattersOf walk ⌝ }
 {
     if walk.holds {
@@ -129,7 +129,7 @@ pub fn matters(walk: Walk) -> bool
 }
 
 // A listed value was seen, which matches or not.
-pub fn seen(walk: Walk, yes: bool) -> Walk
+pub(crate) fn seen(walk: Walk, yes: bool) -> Walk
     ensures { λ r. ⌜ r ≡ seenOf yes walk ⌝ }
 {
     let reading = walk.reading;

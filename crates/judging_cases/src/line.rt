@@ -49,7 +49,7 @@ fn run_line(line: &[u8], table: &mut [u8], size: usize, room: &mut [u8]) -> usiz
 }
 
 // Runs the lines of a text, one after the other.
-pub fn run_lines(text: &[u8], table: &mut [u8], room: &mut [u8]) {
+pub(crate) fn run_lines(text: &[u8], table: &mut [u8], room: &mut [u8]) {
     let mut size: usize = 0;
     let mut at: usize = 0;
     while at < text.len() {

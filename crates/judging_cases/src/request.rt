@@ -139,7 +139,7 @@ fn lay_keys(line: &[u8], room: &mut [u8], from: usize) -> Keys {
 }
 
 // Lays the columns of a line's request into the room, one behind the other.
-pub fn lay_request(line: &[u8], room: &mut [u8]) -> Request {
+pub(crate) fn lay_request(line: &[u8], room: &mut [u8]) -> Request {
     let elements = lay_elements(line, room);
     let keys = lay_keys(line, room, elements.resource.to);
     let at = place_of_column(line, b"ip=");
@@ -156,7 +156,7 @@ fn bytes_of(room: &[u8], column: Column) -> &[u8] {
 }
 
 // Judges a request whose columns were laid into the room.
-pub fn judge_laid(table: &[u8], room: &[u8], request: Request) -> Judgement {
+pub(crate) fn judge_laid(table: &[u8], room: &[u8], request: Request) -> Judgement {
     let elements = request.elements;
     let keys = request.keys;
     let present = Present {

@@ -5,7 +5,7 @@ use Prim.Native.Nat.{ℕ, _+_, _-_, _*_, _/_, _^_, _<_, _≤_}
 use native.Mathlib.Nat.{div-mul-le-self, lt-div-mul-add, div-eq-of-lt-le, add-mul, one-mul}
 use native.Mathlib.Omega.{arith}
 use lib.Dec.{eqb, leb}
-use lib.Pow.{pow-pos, pow-add, pow-mono, shr-lt}
+use lib.Pow.{pow-pos, pow-add, shr-lt}
 use lib.Arith.{digits-lt}
 use borrow.Author.Tests.{le-leb, leb-true, eqb-true, eqb-false}
 use Rattle.matching.specs.Network.{networkSize, agree, networkLow, networkHigh}
@@ -47,12 +47,3 @@ high-fits network length h =
     subst (λ (n : ℕ). networkHigh network length < n)
     (sym (pow-add 2 (32 - (32 - length)) (32 - length)) ∙ ap (λ (n : ℕ). 2 ^ n) bits)
     (digits-lt (shr-lt (32 - (32 - length)) (32 - length) below) (omega arith))
-
-pub low-high : (network length : ℕ) → networkLow network length ≤ networkHigh network length
-low-high network length = omega arith
-
-pub low-fits : (network length : ℕ) → network < 2 ^ 32 → networkLow network length < 2 ^ 32
-low-fits network length h = omega (arith, high-fits network length h)
-
-pub size-fits : (length : ℕ) → networkSize length ≤ 2 ^ 32
-size-fits length = pow-mono {i = 32 - length} {j = 32} (omega arith)

@@ -104,10 +104,6 @@ module _ (eq : ℕ → ℕ → Bool) where
   last-step b (byte c) p s = byte-takes c b p s
 
   -- no symbols match the empty string and no other
-  pub prefix-start : (p : List Symbol) (s : List ℕ) → prefixMatches eq p s 0 ≡ isEmpty s
-  unfolding prefixMatches
-  prefix-start p s = refl
-
   pub prefix-first-start : (p : List Symbol) → prefixMatches eq p [] 0 ≡ true
   unfolding prefixMatches
   prefix-first-start p = refl

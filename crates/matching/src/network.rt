@@ -13,7 +13,7 @@ fn network_size(length: u8) -> u64
 }
 
 // The lowest address of a network.
-pub fn network_low(network: u32, length: u8) -> u32
+fn network_low(network: u32, length: u8) -> u32
     ensures { λ r. ⌜ r ≡ networkLow network length ⌝ }
 {
     let size = network_size(length);
@@ -21,7 +21,7 @@ pub fn network_low(network: u32, length: u8) -> u32
 }
 
 // The highest address of a network.
-pub fn network_high(network: u32, length: u8) -> u32
+fn network_high(network: u32, length: u8) -> u32
     ensures { λ r. ⌜ r ≡ networkHigh network length ⌝ }
 {
     let size = network_size(length);

@@ -92,7 +92,7 @@ fn run_line(line: &[u8], room: &mut [u8]) {
 }
 
 // Runs the lines of a text, one after the other.
-pub fn run_lines(text: &[u8], room: &mut [u8]) {
+pub(crate) fn run_lines(text: &[u8], room: &mut [u8]) {
     let mut at: usize = 0;
     while at < text.len() {
         let end = behind_next(text, at, b'\n');

@@ -248,7 +248,7 @@ fn run_ends() {
     );
 }
 
-pub fn run_items() {
+pub(crate) fn run_items() {
     run_lengths();
     run_buffers();
     run_limits();

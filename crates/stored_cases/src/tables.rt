@@ -71,7 +71,7 @@ fn run_line(line: &[u8], table: &mut [u8], buffer: &mut [u8]) {
 }
 
 // Runs the cases of a text, one line after the other.
-pub fn run_cases(text: &[u8], table: &mut [u8], buffer: &mut [u8]) {
+pub(crate) fn run_cases(text: &[u8], table: &mut [u8], buffer: &mut [u8]) {
     let mut at: usize = 0;
     while at < text.len() {
         let end = behind_next(text, at, b'\n');

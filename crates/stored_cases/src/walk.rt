@@ -16,7 +16,7 @@ pub enum Walked {
 }
 
 // Gives the records of a table to a fresh writer.
-pub fn write_records(table: &[u8], buffer: &mut [u8]) -> Walked {
+pub(crate) fn write_records(table: &[u8], buffer: &mut [u8]) -> Walked {
     let mut writer = begin();
     let mut at: usize = 0;
     while at < table.len() {
@@ -45,7 +45,7 @@ pub fn write_records(table: &[u8], buffer: &mut [u8]) -> Walked {
 }
 
 // The first so many bytes of the buffer are the table's, all of them.
-pub fn is_same(table: &[u8], buffer: &[u8], size: usize) -> bool {
+pub(crate) fn is_same(table: &[u8], buffer: &[u8], size: usize) -> bool {
     if size == table.len() {
         let mut at: usize = 0;
         while at < table.len() {

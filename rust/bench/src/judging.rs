@@ -5,8 +5,8 @@ use oracle::{limits, Table};
 
 use crate::corpus::{build, realistic};
 use crate::measure::time_of;
-use crate::random::Random;
 use crate::table;
+use support::random::Random;
 
 const TABLES: usize = 12;
 const REQUESTS: usize = 24;

@@ -11,7 +11,6 @@ pub mod judging;
 pub mod machine;
 pub mod measure;
 pub mod plot;
-pub mod random;
 pub mod settings;
 pub mod smt;
 pub mod solvers;

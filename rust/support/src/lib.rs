@@ -1,4 +1,4 @@
-//! What the tests of the oracle and of the portal share. It depends on neither: tables are bytes, and what must be
+//! What the tests of the oracle and of the portal and the benchmark share. It depends on none of them: tables are bytes, and what must be
 //! printed is text.
 
 pub mod bench;

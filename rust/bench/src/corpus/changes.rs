@@ -1,8 +1,8 @@
 //! A table against itself with one row changed, added or removed, and against itself as it is.
 
-use crate::random::Random;
 use oracle::table::Effect;
 use oracle::Table;
+use support::random::Random;
 
 use super::{realistic, triples};
 

@@ -1,8 +1,8 @@
 //! Pairs in which one quantity grows: positions, states, statements or kinds.
 
-use crate::random::Random;
 use oracle::table::Effect;
 use oracle::Table;
+use support::random::Random;
 
 use super::build::*;
 use super::worst::{own_rows, with_everything};

@@ -8,8 +8,8 @@ pub mod realistic;
 mod triples;
 pub mod worst;
 
-use crate::random::Random;
 use oracle::Table;
+use support::random::Random;
 
 #[derive(Clone, Copy, Debug, PartialEq, Eq, Hash)]
 pub enum Family {

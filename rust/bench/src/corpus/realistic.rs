@@ -1,8 +1,8 @@
 //! Tables as people write them: ARN-like principals and resources, actions by service, keys and networks.
 
-use crate::random::Random;
 use oracle::table::{Effect, Key, Statement};
 use oracle::Table;
+use support::random::Random;
 
 use super::build::*;
 

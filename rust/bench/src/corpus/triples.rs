@@ -1,10 +1,10 @@
 //! Policies as source 001 draws them in its section 3.1: statements, strings per block and length are drawn, and zero, one
 //! or two wildcards spliced into each block of actions and of resources.
 
-use crate::random::Random;
 use oracle::limits;
 use oracle::table::{Effect, Element, Statement};
 use oracle::Table;
+use support::random::Random;
 
 use super::build;
 

@@ -1,9 +1,9 @@
 //! The worst cases that the limits of document 01 let through.
 
-use crate::random::Random;
 use oracle::limits;
 use oracle::table::{Key, Statement};
 use oracle::Table;
+use support::random::Random;
 
 use super::build::*;
 use super::Pair;
