@@ -1,15 +1,15 @@
 -- Footprints in the workspace, from one bound to another: one after the other, one more behind them, and as the footprints of what was found.
-use Prim.Native.Nat.{ℕ, zero, suc, _+_, _-_, _*_, _≤_, _<_}
-use mathlib.Core.Path.{_≡_, refl, sym, ap, ap₂, _∙_, subst}
+use Prim.Native.Nat.{ℕ, zero, suc, _+_, _-_, _≤_, _<_}
+use mathlib.Core.Path.{_≡_, refl, sym, ap, ap₂, _∙_}
 use mathlib.Core.Bool.{Bool, true, false, _||_}
 use mathlib.Core.List.{List, [], _∷_, _++_, map}
 use native.Mathlib.Omega.{arith}
 use lib.Dec.{eqb}
-use lib.ListN.{length, getD, take, drop, set, length-take, length-drop, length-map}
-use lib.Seq.{drop-cons, drop-set-add, take-suc-set, take-take, take-nil, drop-drop, length-take-le}
+use lib.ListN.{length, getD, take, drop, set, length-drop}
+use lib.Seq.{drop-cons, drop-set-add, take-suc-set, length-take-le}
 use Rattle.stored.specs.Choice.{pick, some}
-use Rattle.comparing.specs.Kinds.{printsAt}
-use Rattle.comparing.specs.Search.{adding, addingRows}
+use Rattle.states.specs.Rows.{printsAt}
+use Rattle.comparing.specs.Adding.{adding, addingRows}
 use Rattle.comparing.specs.Survey.{printsBetween, addPrint, Added}
 
 -- none
@@ -61,23 +61,6 @@ module _ (print : ℕ → ℕ) where
   rows-more (suc n) row found =
       rows-more n (suc row) (adding print found row)
       ∙ ap (adding print (addingRows print (adding print found row) (suc row) n)) {x = suc row + n} {y = row + suc n} (omega arith)
-
--- a part that lies where two lists agree
-drop-taken : (at k : ℕ) (l : List ℕ) → drop at (take (at + k) l) ≡ take k (drop at l)
-drop-taken zero k l = ap (λ (n : ℕ). take n l) {x = 0 + k} {y = k} (omega arith)
-drop-taken (suc at) k [] = ap (drop (suc at)) (take-nil (suc at + k)) ∙ sym (take-nil k)
-drop-taken (suc at) k (x ∷ l) =
-    ap (λ (n : ℕ). drop (suc at) (take n (x ∷ l))) {x = suc at + k} {y = suc (at + k)} (omega arith) ∙ drop-taken at k l
-
-pub part-kept : (l m : List ℕ) (k at n : ℕ) → take k l ≡ take k m → at + n ≤ k → take n (drop at l) ≡ take n (drop at m)
-part-kept l m k at n same inside =
-    sym (drop-taken at n l)
-    ∙ ap (drop at) (sym (take-take (at + n) k l inside) ∙ ap (take (at + n)) same ∙ take-take (at + n) k m inside)
-    ∙ drop-taken at n m
-
--- fewer of the first words
-pub front-kept : (l m : List ℕ) (k j : ℕ) → take k l ≡ take k m → j ≤ k → take j l ≡ take j m
-front-kept l m k j same low = sym (take-take j k l low) ∙ ap (take j) same ∙ take-take j k m low
 
 -- a footprint laid down is that of one row more
 pub row-added : (print : ℕ → ℕ) (words after : List ℕ) (from to last row i p : ℕ) (found : List ℕ) → row ≤ i → p ≡ print i

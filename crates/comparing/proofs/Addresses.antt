@@ -1,12 +1,12 @@
 -- The first values of column 7, gathered from edge to edge: absence, then address 0 and the ends of networks in their order. An address
 -- between two edges is like the edge below it, so every address is like one that was looked at.
 use Prim.Native.Nat.{ℕ, zero, suc, _+_, _*_, _^_, _≤_, _<_}
-use mathlib.Core.Path.{_≡_, refl, sym, ap, _∙_, subst}
+use mathlib.Core.Path.{_≡_, refl, sym, ap, subst}
 use mathlib.Core.Bool.{Bool, true, false}
 use mathlib.Core.List.{List, [], _∷_, _++_, map}
 use mathlib.Core.Logic.{_⊎_, inl, inr}
 use native.Mathlib.Omega.{arith}
-use lib.Dec.{eqb, ltb}
+use lib.Dec.{ltb}
 use lib.ListN.{length}
 use borrow.Author.Tests.{ne-eqb, ltb-true, ltb-false}
 use Rattle.stored.specs.Choice.{pick}
@@ -15,12 +15,13 @@ use Rattle.judging.specs.Requests.{Value, absent, text, number}
 use Rattle.comparing.specs.Order.{Before, In}
 use Rattle.comparing.specs.Requests.{Admitted}
 use Rattle.comparing.specs.Gaps.{Alike}
-use Rattle.comparing.specs.Columns.{networksIn}
+use Rattle.columns.specs.Values.{networksIn}
 use Rattle.comparing.specs.Product.{Firsts, printOf}
-use Rattle.comparing.specs.Search.{addressAt, adding, nextEdge, addingEdges}
+use Rattle.columns.specs.Edges.{nextEdge}
+use Rattle.comparing.specs.Adding.{addressAt, adding, addingEdges}
 use Rattle.comparing.proofs.Gathering.{Upto, Next, none-yet, printed-all, gathered-firsts, adding-next}
-use Rattle.comparing.proofs.Edges.{edge-high, next-edge-above, alike-between}
-use Rattle.comparing.proofs.EdgeSteps.{endsAbove, ends-few, ends-fall, edges-all, edges-few, edges-some}
+use Rattle.columns.proofs.Edges.{edge-high, next-edge-above}
+use Rattle.comparing.proofs.EdgeSteps.{alike-between, endsAbove, ends-few, ends-fall, edges-all, edges-few, edges-some}
 
 -- What is found in column 7: its first values in order, the words of their footprints, as many as fit; each is shown by an address or by 2 ^ 32.
 pub record AddressesFound (first second : List Statement) (print : ℕ → ℕ) (found : List ℕ) : Type 0 where

@@ -1,21 +1,24 @@
 -- The loop over the edges of networks, as far as it has come: what was found, and that the rest of the way leads to what is found in the end.
-use Prim.Native.Nat.{ℕ, zero, suc, _+_, _-_, _*_, _^_, _≤_, _<_}
+use Prim.Native.Nat.{ℕ, zero, suc, _+_, _*_, _^_, _≤_, _<_}
 use mathlib.Core.Path.{_≡_, refl, sym, ap, ap₂, _∙_}
 use mathlib.Core.Bool.{Bool, true, false}
 use mathlib.Core.List.{List, [], _∷_, _++_, map}
 use native.Mathlib.Omega.{arith}
 use lib.Dec.{eqb, ltb}
-use lib.ListN.{length, take, drop, length-map, length-append}
+use lib.ListN.{length, take, length-map, length-append}
 use borrow.Author.Tests.{ne-eqb}
 use Rattle.stored.specs.Choice.{pick, some}
 use Rattle.stored.specs.Tables.{Statement}
-use Rattle.judging.specs.Requests.{Value, absent, number}
-use Rattle.comparing.specs.Columns.{networksIn}
-use Rattle.comparing.specs.Kinds.{printsAt}
+use Rattle.judging.specs.Requests.{absent, number}
+use Rattle.columns.specs.Values.{networksIn}
+use Rattle.states.specs.Rows.{printsAt}
 use Rattle.comparing.specs.Product.{printOf}
-use Rattle.comparing.specs.Search.{addressAt, adding, nextEdge, addingEdges}
-use Rattle.comparing.specs.Survey.{printsBetween, addPrint, Added, FewNetworks, Gathered}
-use Rattle.comparing.proofs.AddingPrints.{prints-none, prints-length, adding-printed, part-kept}
+use Rattle.columns.specs.Edges.{nextEdge}
+use Rattle.comparing.specs.Adding.{addressAt, adding, addingEdges}
+use Rattle.columns.specs.Both.{FewNetworks}
+use Rattle.comparing.specs.Survey.{printsBetween, addPrint, Added, Gathered}
+use Rattle.states.proofs.Parts.{part-kept}
+use Rattle.comparing.proofs.AddingPrints.{prints-none, prints-length, adding-printed}
 use Rattle.comparing.proofs.Addresses.{AddressesFound, gather-addresses}
 use Rattle.comparing.proofs.EdgeSteps.{edges-on, edges-past}
 

@@ -1,18 +1,20 @@
 -- One column: what its search says of its states, and its footprints behind those of the columns before it.
 use Prim.Native.Nat.{ℕ, suc, _≤_, _<_}
-use mathlib.Core.Path.{_≡_, sym, ap, _∙_}
-use mathlib.Core.List.{List, [], _∷_, _++_}
+use mathlib.Core.Path.{_≡_, ap, _∙_}
+use mathlib.Core.List.{List, _++_}
 use mathlib.Core.Logic.{_⊎_, inl, inr}
 use native.Mathlib.Omega.{arith}
 use lib.ListN.{length, take, drop}
 use Rattle.stored.specs.Tables.{Statement}
 use Rattle.matching.specs.Codes.{codesOf}
-use Rattle.comparing.specs.Columns.{valuesIn, Few, TooMany}
-use Rattle.comparing.specs.Kinds.{printsAt}
-use Rattle.comparing.specs.Search.{mostStates, Explored, Exceeded}
-use Rattle.comparing.specs.Survey.{Narrow, HasStates, FoundStates, Gathered}
+use Rattle.columns.specs.Values.{valuesIn}
+use Rattle.comparing.specs.Columns.{Few, TooMany}
+use Rattle.states.specs.Rows.{printsAt, mostStates}
+use Rattle.states.specs.Search.{Explored, Exceeded}
+use Rattle.columns.specs.Both.{Narrow}
+use Rattle.comparing.specs.Survey.{HasStates, FoundStates, Gathered}
 use Rattle.comparing.specs.declared.survey.States.{States}
-use Rattle.comparing.proofs.Widths.{codes-sum}
+use Rattle.columns.proofs.Widths.{codes-sum}
 use Rattle.comparing.proofs.AllStates.{states-few, states-many}
 
 module _ (first second : List Statement) (column : ℕ) (before after : List ℕ) (r : States) (f : FoundStates first second column before after r)

@@ -4,7 +4,7 @@ use Prim.Native.Nat.{ℕ, zero, suc, _+_, _-_, _*_, _≤_, _<_, min}
 use mathlib.Core.Path.{_≡_, refl, sym, ap, ap₂, _∙_, subst}
 use mathlib.Core.Bool.{Bool, true, false}
 use mathlib.Core.List.{List, [], _∷_, _++_, map}
-use native.Mathlib.Nat.{mul-one, mul-assoc, mul-le-mul-left}
+use native.Mathlib.Nat.{mul-assoc, mul-le-mul-left}
 use native.Mathlib.Omega.{arith}
 use lib.Dec.{ltb}
 use lib.ListN.{length, getD, take, drop, set, length-set}
@@ -13,14 +13,14 @@ use borrow.Author.Tests.{lt-ltb, le-ltb, ltb-true, ltb-false}
 use Rattle.stored.specs.Choice.{pick}
 use Rattle.stored.specs.Tables.{Statement}
 use Rattle.judging.specs.Requests.{Value}
-use Rattle.comparing.specs.Columns.{valuesIn, Few}
 use Rattle.comparing.specs.Compared.{product, mostKinds}
 use Rattle.comparing.specs.Kinds as kinds
-use Rattle.comparing.specs.Kinds.{printsAt, columnPrints, Bounded}
+use Rattle.states.specs.Rows.{printsAt}
+use Rattle.comparing.specs.Kinds.{columnPrints}
 use Rattle.comparing.specs.Product.{Firsts, AllFirsts, printOf, printsFrom}
 use Rattle.comparing.specs.Survey.{printsBetween, FewIn, Gathered, Listed}
-use Rattle.comparing.proofs.AddingPrints.{part-kept}
-use Rattle.comparing.proofs.Below.{below-next}
+use Rattle.states.proofs.Parts.{part-kept}
+use Rattle.states.proofs.Below.{below-next}
 use Rattle.comparing.proofs.Room.{Room, room-start, room-more, room-fits}
 
 -- a property of each list, from a column up to another

@@ -3,17 +3,22 @@
 use Prim.Native.Nat.{ℕ, zero, suc, _+_, _*_, _^_, _≤_, _<_}
 use mathlib.Core.Path.{_≡_, refl, sym, _∙_}
 use mathlib.Core.Bool.{Bool, true, false}
-use mathlib.Core.List.{List, [], _∷_}
+use mathlib.Core.List.{List, [], _∷_, _++_}
 use native.Mathlib.Omega.{arith}
 use lib.Dec.{leb, ltb}
 use lib.ListN.{length}
 use borrow.Author.Tests.{ltb-true, ltb-false, lt-ltb, le-ltb, leb-true, leb-false}
 use Rattle.stored.specs.Choice.{pick}
+use Rattle.stored.specs.Tables.{Statement}
 use Rattle.matching.specs.Network.{networkLow, networkHigh}
+use Rattle.judging.specs.Requests.{number}
 use Rattle.judging.specs.Rows.{bitOf}
-use Rattle.comparing.specs.Search.{adding, above, nextEdge, addingEdges}
+use Rattle.columns.specs.Values.{networksIn}
+use Rattle.columns.specs.Edges.{above, nextEdge}
+use Rattle.comparing.specs.Gaps.{footprint, Alike}
+use Rattle.comparing.specs.Adding.{adding, addingEdges}
 use Rattle.comparing.proofs.Gathering.{adding-some, adding-few}
-use Rattle.comparing.proofs.Edges.{edge-high, next-edge-above}
+use Rattle.columns.proofs.Edges.{next-edge-above, between-edges}
 
 -- the ends of networks above an address
 abbrev pub endsAbove : List (ℕ × ℕ) → ℕ → ℕ
@@ -140,3 +145,9 @@ edges-some (suc fuel) ns print found x h =
         → 0 < length (pick t (addingEdges fuel ns print (adding print found x) (nextEdge ns x)) found)
     by true more = more
     by false more = h
+
+-- addresses between two edges are alike
+pub alike-between : (x y : ℕ) → x ≤ y → (first second : List Statement) → y < nextEdge (networksIn (first ++ second)) x
+    → Alike first second 7 (number y) (number x)
+unfolding footprint
+alike-between x y up first second h = between-edges x y up (first ++ second) h

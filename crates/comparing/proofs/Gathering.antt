@@ -18,7 +18,7 @@ use Rattle.comparing.specs.Order.{Before, In, Ascending}
 use Rattle.comparing.specs.Requests.{Admitted}
 use Rattle.comparing.specs.Gaps.{footprint, Alike, FirstOf}
 use Rattle.comparing.specs.Product.{Firsts, printOf}
-use Rattle.comparing.specs.Search.{adding}
+use Rattle.comparing.specs.Adding.{adding}
 use Rattle.comparing.proofs.Listing.{in-more, ascending-more, map-same, some-true, some-false}
 use Rattle.comparing.proofs.Members.{in-left, in-right, in-mapped, mapped-in}
 

@@ -1,18 +1,17 @@
 -- The codes of two tables' values laid down in the workspace, one behind the other: they are the codes of both, and the footprints stay.
 use Prim.Native.Nat.{ℕ, _+_, _≤_}
 use mathlib.Core.Path.{_≡_, refl, sym, ap, ap₂, _∙_}
-use mathlib.Core.List.{List, [], _∷_, _++_}
+use mathlib.Core.List.{List, _++_}
 use native.Mathlib.Omega.{arith}
 use lib.ListN.{length, take, drop, length-append, length-drop}
 use lib.Seq.{sets, sets-eq, length-sets, take-at, drop-at, take-append-le, drop-drop, length-take-le}
 use Rattle.stored.specs.Tables.{Statement}
 use Rattle.matching.specs.Codes.{codesOf}
-use Rattle.comparing.specs.Columns.{valuesIn, sumOf}
-use Rattle.comparing.specs.Kinds.{printsAt}
-use Rattle.comparing.specs.Search.{codesAt, takenAt, codesLaid}
-use Rattle.comparing.specs.Survey.{Narrow}
-use Rattle.comparing.proofs.Widths.{codes-sum, sum-both}
-use Rattle.comparing.proofs.StateWalk.{codes-both}
+use Rattle.columns.specs.Values.{valuesIn, sumOf}
+use Rattle.states.specs.Rows.{printsAt, codesAt, takenAt, codesLaid}
+use Rattle.columns.specs.Both.{Narrow}
+use Rattle.columns.proofs.Widths.{codes-sum, sum-both}
+use Rattle.columns.proofs.StateWalk.{codes-both}
 
 -- the workspace with other words in the place of the codes
 abbrev pub withCodes : List ℕ → List ℕ → List ℕ

@@ -1,7 +1,7 @@
 -- Where neither table has a value in a needed column, all strings are alike there, and the first admitted one is `!`.
-use Prim.Native.Nat.{ℕ, suc, _≤_, _<_}
+use Prim.Native.Nat.{ℕ, _<_}
 use mathlib.Core.Path.{_≡_, refl, sym, ap, _∙_}
-use mathlib.Core.Bool.{Bool, true, false, _&&_}
+use mathlib.Core.Bool.{true}
 use mathlib.Core.List.{List, [], _∷_, _++_}
 use mathlib.Core.Logic.{_⊎_, inl, inr}
 use native.Mathlib.Omega.{arith}
@@ -12,10 +12,10 @@ use Rattle.matching.specs.declared.reading.Reading.{Reading}
 use Rattle.matching.specs.State.{stateOf}
 use Rattle.judging.specs.Requests.{Value, absent, text, number}
 use Rattle.comparing.specs.Order.{Before, Smaller, In}
-use Rattle.comparing.specs.Requests.{Admitted, AdmitsNeeded}
+use Rattle.comparing.specs.Requests.{AdmitsNeeded}
 use Rattle.comparing.specs.Gaps.{Alike, FirstOf}
-use Rattle.comparing.specs.Columns.{valuesIn, sumOf}
-use Rattle.comparing.specs.Product.{Firsts, printOf}
+use Rattle.columns.specs.Values.{valuesIn, sumOf}
+use Rattle.comparing.specs.Product.{Firsts}
 use Rattle.comparing.proofs.Admitting.{needed, is-needed}
 use Rattle.comparing.proofs.Deciding.{state-decides}
 use Rattle.comparing.proofs.Ranks.{ranged}

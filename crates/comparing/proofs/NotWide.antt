@@ -1,7 +1,7 @@
 -- Where refusal 10 is given for no column, every column can be surveyed.
-use Prim.Native.Nat.{ℕ, _≤_, _<_}
-use mathlib.Core.Path.{_≡_, sym, ap, _∙_}
-use mathlib.Core.Bool.{Bool, false}
+use Prim.Native.Nat.{ℕ, _≤_}
+use mathlib.Core.Path.{sym, ap, _∙_}
+use mathlib.Core.Bool.{Bool}
 use mathlib.Core.List.{List}
 use native.Mathlib.Omega.{arith}
 use lib.Dec.{ltb}
@@ -10,7 +10,8 @@ use borrow.Author.Tests.{lt-ltb, ltb-false}
 use Rattle.stored.specs.Choice.{pick}
 use Rattle.stored.specs.Tables.{Statement}
 use Rattle.judging.specs.Requests.{columns}
-use Rattle.comparing.specs.Columns.{valuesIn, sumOf, networksIn, isWide}
+use Rattle.columns.specs.Values.{valuesIn, sumOf, networksIn}
+use Rattle.comparing.specs.Columns.{isWide}
 use Rattle.comparing.specs.Compared.{firstWide}
 use Rattle.comparing.specs.Survey.{Surveyable}
 use Rattle.comparing.proofs.Refusals.{lowest-first}

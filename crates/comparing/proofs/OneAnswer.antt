@@ -1,10 +1,10 @@
 -- The comparison leaves one answer: the lowest wide column is computed, the lowest crowded column is one since at most 512 states are
 -- not more than 512, and the counts of footprints are unique.
-use Prim.Native.Nat.{ℕ, suc, _+_, _<_}
+use Prim.Native.Nat.{ℕ, suc, _+_}
 use mathlib.Core.Path.{_≡_, refl, sym, ap, ap₂, _∙_, subst}
 use mathlib.Core.Bool.{Bool, true, false, _||_}
 use mathlib.Core.List.{List, [], _∷_, _++_}
-use mathlib.Core.Logic.{_⊎_, inl, inr}
+use mathlib.Core.Logic.{inl, inr}
 use native.Mathlib.Omega.{arith}
 use lib.Dec.{ltb, leb}
 use lib.ListN.{length, drop}
@@ -20,8 +20,9 @@ use Rattle.matching.specs.declared.reading.Reading.{Reading}
 use Rattle.matching.specs.State.{stateOf}
 use Rattle.comparing.specs.Requests.{Admitted}
 use Rattle.comparing.specs.Gaps.{footprint}
-use Rattle.comparing.specs.Columns.{IsString, valuesIn, Few, TooMany, Footprints}
-use Rattle.comparing.specs.Compared.{workspaceWords, valueBytes, mostKinds, firstWide, Crowded, Uncrowded, CountsFrom, product, FromKinds, FromStates, FromWidths, FromTables, Answered, IsCount, Compared, firstLong, shapeOf, laid, IsShown, IsAnswer, keeps, Shown}
+use Rattle.columns.specs.Values.{valuesIn}
+use Rattle.comparing.specs.Columns.{IsString, Few, TooMany}
+use Rattle.comparing.specs.Compared.{workspaceWords, valueBytes, mostKinds, firstWide, Crowded, Uncrowded, CountsFrom, product, FromKinds, FromStates, FromTables, Answered, IsCount, Compared, firstLong, shapeOf, laid, IsShown, IsAnswer, keeps, Shown}
 use Rattle.comparing.specs.declared.answers.Counting.{Counting}
 use Rattle.comparing.specs.declared.answers.Counting.the-variants as C
 use Rattle.comparing.specs.declared.answers.Showing.{Showing}

@@ -23,8 +23,10 @@ use Rattle.judging.specs.declared.judge.Judgement.the-variants as J
 use Rattle.comparing.specs.Order.{Before, Earlier, In}
 use Rattle.comparing.specs.Requests.{IsRequest}
 use Rattle.comparing.specs.Gaps.{footprint, AlikeFrom, Gaps, Counted, IsGap}
-use Rattle.comparing.specs.Columns.{valuesIn, States}
-use Rattle.comparing.specs.Search.{mostStates, rowAt, Explored, stringOf}
+use Rattle.columns.specs.Values.{valuesIn}
+use Rattle.comparing.specs.Columns.{States}
+use Rattle.states.specs.Rows.{mostStates, rowAt}
+use Rattle.states.specs.Search.{Explored, stringOf}
 use Rattle.comparing.specs.Compared.{workspaceWords, mostKinds, firstWide, Crowded, Uncrowded, CountsFrom, product, Compared, Shown}
 use Rattle.comparing.specs.declared.answers.Counting.{Counting}
 use Rattle.comparing.specs.declared.answers.Counting.the-variants as C

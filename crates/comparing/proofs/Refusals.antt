@@ -1,23 +1,22 @@
 -- When each refusal of the comparison is given, for tables that read and a workspace that is long enough: 10, 11 and 12 each exactly when
 -- document 01 says, and else the number of gaps.
 use Prim.Native.Nat.{ℕ, zero, suc, _+_, _≤_, _<_}
-use mathlib.Core.Path.{_≡_, refl, sym, ap, _∙_, subst}
+use mathlib.Core.Path.{_≡_, refl, sym, ap, subst}
 use mathlib.Core.Bool.{Bool, true, false}
-use mathlib.Core.List.{List, [], _∷_, _++_}
-use mathlib.Core.Logic.{_⊎_, inl, inr, _↔_}
+use mathlib.Core.List.{List, _++_}
+use mathlib.Core.Logic.{inl, inr, _↔_}
 use native.Mathlib.Omega.{arith}
 use lib.Dec.{ltb, eqb}
 use borrow.Author.Tests.{ltb-true, ltb-false, lt-ltb, le-ltb, eqb-true, eqb-false}
 use Rattle.stored.specs.Choice.{pick}
 use Rattle.stored.specs.Reading.{reading}
 use Rattle.stored.specs.Tables.{Statement}
-use Rattle.stored.specs.declared.reader.ReadAnswer.{ReadAnswer}
 use Rattle.stored.specs.declared.reader.ReadAnswer.the-variants as A
 use Rattle.judging.specs.Requests.{columns}
 use Rattle.judging.specs.Judging.{rowsOf}
 use Rattle.comparing.specs.Gaps.{Counted}
 use Rattle.comparing.specs.Columns.{isWide}
-use Rattle.comparing.specs.Compared.{workspaceWords, mostKinds, lowest, firstWide, Crowded, Uncrowded, CountsFrom, product, FromKinds, FromStates, FromWidths, FromTables, IsCount, Compared}
+use Rattle.comparing.specs.Compared.{workspaceWords, mostKinds, lowest, firstWide, Crowded, Uncrowded, CountsFrom, product, FromKinds, FromStates, FromWidths, IsCount, Compared}
 use Rattle.comparing.specs.declared.answers.Counting.{Counting}
 use Rattle.comparing.specs.declared.answers.Counting.the-variants as C
 

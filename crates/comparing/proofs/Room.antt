@@ -1,6 +1,6 @@
 -- The footprints of all columns fit: eight counts of 1 to 513 whose product is at most 16,777,216 have a sum of at most 1,094. A loop
 -- over the columns keeps three linear facts of the sum of (count minus 1) and of the product so far.
-use Prim.Native.Nat.{ℕ, _+_, _-_, _*_, _≤_, _<_}
+use Prim.Native.Nat.{ℕ, _+_, _-_, _*_, _≤_}
 use mathlib.Core.Path.{_≡_, refl, sym, ap, _∙_}
 use native.Mathlib.Nat.{mul-add, add-mul, mul-one, mul-le-mul-left}
 use native.Mathlib.Omega.{arith}

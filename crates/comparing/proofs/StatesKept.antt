@@ -9,10 +9,11 @@ use lib.Seq.{getD-take}
 use Rattle.stored.specs.Tables.{Statement}
 use Rattle.matching.specs.Codes.{codesOf}
 use Rattle.matching.specs.Rows.{stepRow}
-use Rattle.comparing.specs.Columns.{valuesIn}
+use Rattle.columns.specs.Values.{valuesIn}
 use Rattle.comparing.specs.Survey.{HasStates}
-use Rattle.comparing.specs.Search.{mostStates, keysAt, codesAt, rowAt, keyAt, IsByte, stepFrom, Partial}
-use Rattle.comparing.proofs.AddingPrints.{part-kept}
+use Rattle.states.specs.Rows.{mostStates, keysAt, codesAt, rowAt, keyAt, IsByte}
+use Rattle.states.specs.Search.{stepFrom, Partial}
+use Rattle.states.proofs.Parts.{part-kept}
 
 module _ (words after : List ℕ) (same : take codesAt after ≡ take codesAt words) where
   pub row-stays : (i : ℕ) → i < mostStates → rowAt after i ≡ rowAt words i

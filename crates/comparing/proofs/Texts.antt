@@ -20,9 +20,11 @@ use Rattle.judging.specs.Requests.{Value, absent, text, number}
 use Rattle.comparing.specs.Order.{Before, In}
 use Rattle.comparing.specs.Requests.{Admitted, AdmitsNeeded}
 use Rattle.comparing.specs.Gaps.{Alike}
-use Rattle.comparing.specs.Columns.{valuesIn}
+use Rattle.columns.specs.Values.{valuesIn}
 use Rattle.comparing.specs.Product.{Firsts, printOf}
-use Rattle.comparing.specs.Search.{mostStates, rowAt, Explored, stringOf, textAt, adding, addingRows}
+use Rattle.states.specs.Rows.{mostStates, rowAt}
+use Rattle.states.specs.Search.{Explored, stringOf}
+use Rattle.comparing.specs.Adding.{textAt, adding, addingRows}
 use Rattle.comparing.proofs.Admitting.{needed, is-needed, optional, is-optional}
 use Rattle.comparing.proofs.Gathering.{Upto, Next, none-yet, printed-all, gathered-firsts, adding-next, adding-some, adding-few}
 use Rattle.comparing.proofs.Exploring.{reached, string-reaches, strings-ascend, string-behind}

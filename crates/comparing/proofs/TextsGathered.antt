@@ -1,22 +1,23 @@
 -- The footprints of a column of strings in the workspace are those of its first values, by which of three ways they came there: no value at
 -- all, the rows but the empty string's, or absence and then all rows.
-use Prim.Native.Nat.{ℕ, suc, _+_, _-_, _≤_, _<_}
-use mathlib.Core.Path.{_≡_, refl, sym, ap, ap₂, _∙_, subst}
+use Prim.Native.Nat.{ℕ, _+_, _-_, _≤_, _<_}
+use mathlib.Core.Path.{_≡_, refl, sym, ap, ap₂, _∙_}
 use mathlib.Core.List.{List, [], _∷_, _++_, map}
 use native.Mathlib.Omega.{arith}
-use lib.ListN.{length, take, drop, length-map}
+use lib.ListN.{length, take, length-map}
 use Rattle.stored.specs.Tables.{Statement}
 use Rattle.matching.specs.declared.reading.Reading.{Reading}
 use Rattle.matching.specs.Codes.{codesOf}
-use Rattle.judging.specs.Requests.{Value, absent, text}
-use Rattle.comparing.specs.Columns.{valuesIn, sumOf}
-use Rattle.comparing.specs.Kinds.{printsAt}
+use Rattle.judging.specs.Requests.{absent, text}
+use Rattle.columns.specs.Values.{valuesIn, sumOf}
+use Rattle.states.specs.Rows.{printsAt, mostStates, codesAt}
 use Rattle.comparing.specs.Product.{printOf}
-use Rattle.comparing.specs.Search.{mostStates, codesAt, textAt, stringOf, addingRows}
+use Rattle.comparing.specs.Adding.{textAt, addingRows}
 use Rattle.comparing.specs.Survey.{HasRoom, HasStates, printsBetween, printAt, addPrint, Added, RowsAdded, Gathered}
-use Rattle.comparing.proofs.AddingPrints.{prints-none, prints-length, part-kept, front-kept}
+use Rattle.states.proofs.Parts.{part-kept, front-kept}
+use Rattle.comparing.proofs.AddingPrints.{prints-none, prints-length}
 use Rattle.comparing.proofs.StatesKept.{states-kept}
-use Rattle.comparing.proofs.Widths.{codes-sum}
+use Rattle.columns.proofs.Widths.{codes-sum}
 use Rattle.comparing.proofs.NoValues.{no-values, texts-alike, firsts-none}
 use Rattle.comparing.proofs.Gathering.{alike-printed}
 use Rattle.comparing.proofs.Texts.{TextsFound, gather-optional, gather-needed}

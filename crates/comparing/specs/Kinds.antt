@@ -2,7 +2,7 @@
 -- bit i, the first table's rows below the second's.
 use Prim.Native.Nat.{ℕ, zero, suc, _+_, _-_, _*_, _/_, _%_, _^_, _≤_, _<_}
 use mathlib.Core.Path.{_≡_}
-use mathlib.Core.Bool.{Bool, true, false, not, _&&_, _||_}
+use mathlib.Core.Bool.{Bool, not, _&&_, _||_}
 use mathlib.Core.List.{List, [], _∷_}
 use lib.Bits.{bitAnd}
 use lib.Dec.{eqb, ltb}
@@ -11,6 +11,7 @@ use Rattle.stored.specs.Choice.{pick}
 use Rattle.judging.specs.Rows.{bitOf}
 use Rattle.comparing.specs.declared.kinds.Sides.{Sides}
 use Rattle.comparing.specs.declared.kinds.Step.{Step}
+use Rattle.states.specs.Rows.{printsAt}
 
 -- all rows that apply allow, and there are some
 abbrev pub allowedRows : ℕ → ℕ → Bool
@@ -62,10 +63,6 @@ printsAlong sides [] rows k = []
 printsAlong sides (prints ∷ more) rows k =
     let step = stepOf sides (prints ∷ more) rows k in
     step .print ∷ printsAlong sides more (bitAnd rows (step .print)) (step .left)
-
--- the footprints of a column in the workspace, from word 5,976 on, between the column's bound and the next one's
-abbrev pub printsAt : ℕ
-printsAt = 5976
 
 abbrev pub printsBetween : List ℕ → ℕ → ℕ → List ℕ
 printsBetween words from to = take (to - from) (drop (printsAt + from) words)

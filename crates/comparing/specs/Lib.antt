@@ -7,10 +7,6 @@ pub mod Columns
 pub mod Compared
 pub mod Kinds
 pub mod Product
-pub mod Search
+pub mod Adding
 pub mod Survey
-pub mod Contents
-pub mod Plan
-pub mod Prints
-pub mod Lists
 pub mod ShownValues

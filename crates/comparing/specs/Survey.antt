@@ -1,44 +1,30 @@
 -- What the functions that survey the columns promise each other: of each column, the first values that show its footprints, and these
 -- footprints as words in the workspace.
-use Prim.Native.Nat.{ℕ, suc, _+_, _-_, _≤_, _<_}
+use Prim.Native.Nat.{ℕ, suc, _+_, _≤_, _<_}
 use mathlib.Core.Path.{_≡_}
-use mathlib.Core.Bool.{Bool, true, false}
+use mathlib.Core.Bool.{Bool, false}
 use mathlib.Core.List.{List, [], _∷_, _++_, map}
 use mathlib.Core.Logic.{_⊎_}
 use lib.Dec.{eqb, ltb}
 use lib.ListN.{length, take, drop}
 use Rattle.stored.specs.Choice.{pick, some}
-use Rattle.stored.specs.Entries.{entriesOf, Accepted}
 use Rattle.stored.specs.Tables.{Statement}
 use Rattle.matching.specs.Codes.{codesOf}
 use Rattle.judging.specs.Requests.{Value}
-use Rattle.judging.specs.Judging.{rowsOf}
-use Rattle.comparing.specs.Columns.{valuesIn, sumOf, networksIn, Few, TooMany}
+use Rattle.columns.specs.Values.{valuesIn, sumOf}
+use Rattle.comparing.specs.Columns.{Few, TooMany}
 use Rattle.comparing.specs.Compared.{Crowded, Uncrowded, product, mostKinds}
 pub use Rattle.comparing.specs.Kinds.{printsBetween}
-use Rattle.comparing.specs.Kinds.{printsAt, printsIn, Bounded}
+use Rattle.states.specs.Rows.{printsAt, mostStates}
+use Rattle.comparing.specs.Kinds.{printsIn, Bounded}
 use Rattle.comparing.specs.Product.{Firsts, AllFirsts, printOf, printsFrom}
-use Rattle.comparing.specs.Search.{mostStates, textAt, addingRows, Explored, Exceeded}
+use Rattle.states.specs.Search.{Explored, Exceeded}
+use Rattle.comparing.specs.Adding.{textAt, addingRows}
 use Rattle.comparing.specs.declared.survey.Column.{Column}
 use Rattle.comparing.specs.declared.survey.Column.the-variants as C
 use Rattle.comparing.specs.declared.survey.States.{States}
 use Rattle.comparing.specs.declared.survey.AllColumns.{AllColumns}
-
--- both tables were read, and the first has so many rows
-pub record BothRead (first second : List ℕ) (size : ℕ) : Type 0 where
-  pub one : Accepted (entriesOf first)
-  pub two : Accepted (entriesOf second)
-  pub few : length (rowsOf first) ≤ 32
-  pub more : length (rowsOf second) ≤ 32
-  pub rows : size ≡ length (rowsOf first)
-
--- a column of strings that refusal 10 is not given for
-abbrev pub Narrow : List Statement → ℕ → Type 0
-Narrow rows column = sumOf (valuesIn column rows) ≤ 512
-
--- nor for column 7
-abbrev pub FewNetworks : List Statement → Type 0
-FewNetworks rows = length (networksIn rows) ≤ 128
+use Rattle.columns.specs.Both.{Narrow, FewNetworks}
 
 -- the workspace has room for the footprints of one column more
 pub record HasRoom (words : List ℕ) (from : ℕ) : Type 0 where

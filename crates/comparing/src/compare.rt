@@ -1,12 +1,9 @@
 // The two questions about two tables: how many gaps there are, and what gap k is.
 use crate::answers::Counting;
 use crate::answers::Showing;
-use crate::contents::networks_in;
-use crate::contents::positions_in;
 use crate::kinds::Sides;
 use crate::kinds::count_gaps;
 use crate::kinds::gap_prints;
-use crate::limits::ADDRESSES;
 use crate::limits::COLUMNS;
 use crate::limits::MOST_NETWORKS;
 use crate::limits::MOST_POSITIONS;
@@ -14,7 +11,11 @@ use crate::limits::VALUE_BYTES;
 use crate::limits::WORKSPACE_WORDS;
 use crate::show::show_gap;
 use crate::survey::survey;
+use columns::contents::networks_in;
+use columns::contents::positions_in;
+use columns::limits::ADDRESSES;
 use judging::judge::allow_rows;
+use states::rows::clear;
 use stored::reader::ReadAnswer;
 use stored::reader::read;
 ghost use mathlib.Core.Path.{_≡_};
@@ -22,24 +23,13 @@ ghost use mathlib.Core.Bool.{_||_};
 ghost use mathlib.Core.List.{_++_};
 ghost use Prim.Native.Nat.{_≤_, _<_, _+_};
 ghost use lib.Dec.{ltb};
-ghost use lib.ListN.{length, replicate};
+ghost use lib.ListN.{length};
 ghost use Rattle.stored.specs.Reading.{reading};
 ghost use Rattle.judging.specs.Judging.{rowsOf};
 ghost use Rattle.comparing.specs.Columns.{isWide};
 ghost use Rattle.comparing.specs.Compared.{workspaceWords, valueBytes, firstWide, FromWidths, FromTables, IsCount, IsAnswer, keeps, Compared, Shown, cleared};
 ghost use Rattle.comparing.specs.Product.{SidesOf};
-ghost use Rattle.comparing.specs.Survey.{BothRead};
-
-// All words are zero.
-pub(crate) fn clear(words: &mut [u64])
-    ensures { λ r. ⌜ now (words .exit) ≡ replicate (length (now (words .entry))) 0 ⌝ }
-{
-    let mut i: usize = 0;
-    while i < words.len() {
-        words[i] = 0;
-        i += 1;
-    }
-}
+ghost use Rattle.columns.specs.Both.{BothRead};
 
 // Two numbers have a sum above a limit.
 fn is_over(limit: usize, a: usize, b: usize) -> bool

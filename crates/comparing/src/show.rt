@@ -1,32 +1,34 @@
 // The values of a gap: in each column the first value that shows the gap's footprint. The column is explored once more, and the value
 // laid down in its place.
 use crate::answers::Shape;
-use crate::ends::next_edge;
-use crate::explore::row_at;
-use crate::limits::ADDRESSES;
-use crate::limits::FIRST_BYTE;
-use crate::limits::NO_ADDRESS;
 use crate::limits::VALUE_BYTES;
 use crate::limits::VALUE_ROOM;
-use crate::plan::Plans;
-use crate::plan::lay_plans;
-use crate::prints::absent_print;
-use crate::prints::address_print;
-use crate::prints::state_print;
-use crate::strings::lay_string;
 use crate::survey::states_of;
+use columns::ends::next_edge;
+use columns::limits::ADDRESSES;
+use columns::limits::NO_ADDRESS;
+use columns::plan::Plans;
+use columns::plan::lay_plans;
+use columns::prints::absent_print;
+use columns::prints::address_print;
+use columns::prints::state_print;
 use judging::request::Present;
+use states::limits::FIRST_BYTE;
+use states::rows::row_at;
+use states::strings::lay_string;
 ghost use mathlib.Core.Path.{_≡_};
 ghost use mathlib.Core.List.{List, [], _∷_, _++_};
 ghost use Prim.Native.Nat.{ℕ, _≤_, _<_};
 ghost use lib.ListN.{length, drop, replicate};
 ghost use Rattle.judging.specs.Requests.{Value, text};
 ghost use Rattle.judging.specs.Judging.{rowsOf};
-ghost use Rattle.comparing.specs.Columns.{valuesIn, Few};
+ghost use Rattle.columns.specs.Values.{valuesIn};
+ghost use Rattle.comparing.specs.Columns.{Few};
 ghost use Rattle.comparing.specs.Compared.{valueBytes, Uncrowded};
-ghost use Rattle.comparing.specs.Kinds.{printsAt};
-ghost use Rattle.comparing.specs.Plan.{TextPlans, AddressPlans};
-ghost use Rattle.comparing.specs.Survey.{BothRead, Narrow, FewNetworks, HasStates};
+ghost use Rattle.states.specs.Rows.{printsAt};
+ghost use Rattle.columns.specs.Plan.{TextPlans, AddressPlans};
+ghost use Rattle.columns.specs.Both.{BothRead, Narrow, FewNetworks};
+ghost use Rattle.comparing.specs.Survey.{HasStates};
 ghost use Rattle.comparing.specs.ShownValues.{FirstWith, StartsAt, FoundState, LaidValue, Lays, LaysString, ShowsAddress, RequestWith, LaysGap};
 
 // What is shown of a column of strings: whether it is there, and its length.

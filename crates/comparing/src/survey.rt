@@ -1,22 +1,22 @@
 // The footprints of every column: which states its strings have, and which rows hold for each; or the column that has too many states.
-use crate::contents::lay_codes;
-use crate::ends::next_edge;
-use crate::explore::explore;
-use crate::explore::row_at;
-use crate::limits::ADDRESSES;
-use crate::limits::CODES;
 use crate::limits::COLUMNS;
 use crate::limits::MOST_KINDS;
-use crate::limits::MOST_STATES;
-use crate::limits::NO_ADDRESS;
-use crate::limits::PRINTS;
-use crate::limits::TAKEN;
-use crate::plan::Plans;
-use crate::plan::lay_plans;
-use crate::prints::absent_print;
-use crate::prints::address_print;
-use crate::prints::state_print;
-use crate::taken::lay_taken;
+use columns::contents::lay_codes;
+use columns::ends::next_edge;
+use columns::limits::ADDRESSES;
+use columns::limits::NO_ADDRESS;
+use columns::plan::Plans;
+use columns::plan::lay_plans;
+use columns::prints::absent_print;
+use columns::prints::address_print;
+use columns::prints::state_print;
+use states::explore::explore;
+use states::limits::CODES;
+use states::limits::MOST_STATES;
+use states::limits::PRINTS;
+use states::limits::TAKEN;
+use states::rows::row_at;
+use states::taken::lay_taken;
 ghost use mathlib.Core.Path.{_≡_};
 ghost use mathlib.Core.List.{_++_};
 ghost use Prim.Native.Nat.{_+_, _-_, _*_, _≤_, _<_, min};
@@ -26,10 +26,11 @@ ghost use Rattle.stored.specs.Choice.{pick, some};
 ghost use Rattle.stored.specs.Entries.{entriesOf, Accepted};
 ghost use Rattle.judging.specs.Judging.{rowsOf};
 ghost use Rattle.comparing.specs.Compared.{mostKinds};
-ghost use Rattle.comparing.specs.Columns.{valuesIn, sumOf};
-ghost use Rattle.comparing.specs.Kinds.{printsAt};
-ghost use Rattle.comparing.specs.Plan.{TextPlans, AddressPlans};
-ghost use Rattle.comparing.specs.Survey.{BothRead, Narrow, FewNetworks, HasRoom, printsBetween, Added, HasStates, RowsAdded, Gathered, FoundStates, SurveyedColumn, Surveyable, Surveyed};
+ghost use Rattle.columns.specs.Values.{valuesIn, sumOf};
+ghost use Rattle.states.specs.Rows.{printsAt};
+ghost use Rattle.columns.specs.Plan.{TextPlans, AddressPlans};
+ghost use Rattle.columns.specs.Both.{BothRead, Narrow, FewNetworks};
+ghost use Rattle.comparing.specs.Survey.{HasRoom, printsBetween, Added, HasStates, RowsAdded, Gathered, FoundStates, SurveyedColumn, Surveyable, Surveyed};
 
 // What surveying a column finds: more than 512 states, or where its footprints end.
 pub enum Column {

@@ -16,12 +16,6 @@ use Rattle.comparing.proofs.Answering.{answer-wide, answer-crowded, ans
 use borrow.Author.Needs.{needs}
 use Rattle.comparing.proofs.compare.count_read.Statement.{statement}
 use Rattle.comparing.proofs.compare.count_read.Tie as tie
-use Rattle.comparing.proofs.compare.count_read.Reads as reads
-use Rattle.comparing.proofs.compare.count_read.Lts as lts
-use Rattle.comparing.proofs.compare.first_wide.Reads as first-wide-reads
-use Rattle.comparing.proofs.compare.sides_of.Reads as sides-of-reads
-use Rattle.comparing.proofs.kinds.count_gaps.Reads as count-gaps-reads
-use Rattle.comparing.proofs.survey.survey.Reads as survey-reads
 
 module _ (c : tie.After-sides-of) where
   abbrev one : List Statement

@@ -8,10 +8,6 @@ use Rattle.comparing.proofs.Answering.{answer-first, answer-second, ans
 use borrow.Author.Needs.{needs}
 use Rattle.comparing.proofs.compare.count_tables.Statement.{statement}
 use Rattle.comparing.proofs.compare.count_tables.Tie as tie
-use Rattle.comparing.proofs.compare.count_tables.Reads as reads
-use Rattle.comparing.proofs.compare.count_tables.Lts as lts
-use Rattle.comparing.proofs.compare.count_read.Reads as count-read-reads
-use Rattle.stored.proofs.reader.read.Reads as read-reads
 
 read-requires : tie.Need-read-requires
 read-requires c κs = search needs

@@ -7,10 +7,6 @@ use Rattle.comparing.proofs.Answering.{answer-first, answer-second, ans
 use borrow.Author.Needs.{needs}
 use Rattle.comparing.proofs.compare.find_tables.Statement.{statement}
 use Rattle.comparing.proofs.compare.find_tables.Tie as tie
-use Rattle.comparing.proofs.compare.find_tables.Reads as reads
-use Rattle.comparing.proofs.compare.find_tables.Lts as lts
-use Rattle.comparing.proofs.compare.find_read.Reads as find-read-reads
-use Rattle.stored.proofs.reader.read.Reads as read-reads
 
 read-requires : tie.Need-read-requires
 read-requires c κs = search needs

@@ -10,9 +10,6 @@ use Rattle.comparing.proofs.Narrowing.{lowest-here, lowest-on}
 use borrow.Author.Needs.{needs}
 use Rattle.comparing.proofs.compare.first_wide.Statement.{statement}
 use Rattle.comparing.proofs.compare.first_wide.Tie as tie
-use Rattle.comparing.proofs.compare.first_wide.Reads as reads
-use Rattle.comparing.proofs.compare.first_wide.Lts as lts
-use Rattle.comparing.proofs.compare.is_wide.Reads as is-wide-reads
 
 abbrev Inv-loop : tie.InvT-loop
 Inv-loop first second rows column₀ column =

@@ -9,10 +9,6 @@ use Rattle.comparing.proofs.Answering.{answer-short, answer-long, left-
 use borrow.Author.Needs.{needs}
 use Rattle.comparing.proofs.compare.gap.Statement.{statement}
 use Rattle.comparing.proofs.compare.gap.Tie as tie
-use Rattle.comparing.proofs.compare.gap.Reads as reads
-use Rattle.comparing.proofs.compare.gap.Lts as lts
-use Rattle.comparing.proofs.compare.clear.Reads as clear-reads
-use Rattle.comparing.proofs.compare.find_tables.Reads as find-tables-reads
 
 returns : tie.Need-returns
 returns c =

@@ -10,10 +10,6 @@ use Rattle.comparing.proofs.Answering.{answer-short, answer-long, left-
 use borrow.Author.Needs.{needs}
 use Rattle.comparing.proofs.compare.gap_count.Statement.{statement}
 use Rattle.comparing.proofs.compare.gap_count.Tie as tie
-use Rattle.comparing.proofs.compare.gap_count.Reads as reads
-use Rattle.comparing.proofs.compare.gap_count.Lts as lts
-use Rattle.comparing.proofs.compare.clear.Reads as clear-reads
-use Rattle.comparing.proofs.compare.count_tables.Reads as count-tables-reads
 
 returns : tie.Need-returns
 returns c =

@@ -1,10 +1,7 @@
 -- The sum is not formed, since it might not fit.
 use Rattle.comparing.proofs.Narrowing.{over-first, over-rest}
-use borrow.Author.Needs.{needs}
 use Rattle.comparing.proofs.compare.is_over.Statement.{statement}
 use Rattle.comparing.proofs.compare.is_over.Tie as tie
-use Rattle.comparing.proofs.compare.is_over.Reads as reads
-use Rattle.comparing.proofs.compare.is_over.Lts as lts
 
 returns : tie.Need-returns
 returns c = over-first (c .before .args .limit) (c .before .args .a) (c .before .args .b) (c .if1 .taken)

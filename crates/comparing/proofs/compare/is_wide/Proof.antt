@@ -7,11 +7,6 @@ use Rattle.comparing.proofs.Narrowing.{wide-strings, wide-networks}
 use borrow.Author.Needs.{needs}
 use Rattle.comparing.proofs.compare.is_wide.Statement.{statement}
 use Rattle.comparing.proofs.compare.is_wide.Tie as tie
-use Rattle.comparing.proofs.compare.is_wide.Reads as reads
-use Rattle.comparing.proofs.compare.is_wide.Lts as lts
-use Rattle.comparing.proofs.compare.is_over.Reads as is-over-reads
-use Rattle.comparing.proofs.contents.networks_in.Reads as networks-in-reads
-use Rattle.comparing.proofs.contents.positions_in.Reads as positions-in-reads
 
 positions-in-requires : tie.Need-positions-in-requires
 positions-in-requires c κs = search needs

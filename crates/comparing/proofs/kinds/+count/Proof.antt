@@ -8,7 +8,8 @@ use native.Mathlib.Omega.{arith}
 use lib.Bits.{bitAnd}
 use lib.ListN.{length, getD}
 use Rattle.judging.specs.Rows.{bitOf}
-use Rattle.comparing.specs.Kinds.{isGapRows, countOf, printsAt, printsIn}
+use Rattle.states.specs.Rows.{printsAt}
+use Rattle.comparing.specs.Kinds.{isGapRows, countOf, printsIn}
 use Rattle.comparing.proofs.GapRows.{count-most}
 use Rattle.comparing.proofs.Settling.{settled-once, kinds-ahead}
 use Rattle.comparing.proofs.KindsInWords.{up, next-within, fewer-kinds, gapsBehind, gapsLeft, gaps-start, gaps-on, gaps-done}

@@ -1,9 +1,7 @@
 -- By cases of the first test, which are those of the definition.
 use Prim.Native.Nat.{ℕ}
-use mathlib.Core.Path.{_≡_, sym, _∙_, ap}
-use mathlib.Core.Bool.{true, false, _||_}
+use mathlib.Core.Path.{sym, _∙_, ap}
 use lib.Bits.{bitAnd}
-use lib.Dec.{eqb}
 use borrow.Author.Tests.{eq-eqb, ne-eqb}
 use borrow.Author.Needs.{needs}
 use Rattle.comparing.proofs.kinds.is_settled.Statement.{statement}

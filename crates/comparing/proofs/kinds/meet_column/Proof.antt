@@ -1,5 +1,5 @@
 -- The invariant: what the footprints from i on leave of the rows left is what all footprints leave of the set.
-use Prim.Native.Nat.{ℕ, _+_, _-_, _≤_, _<_}
+use Prim.Native.Nat.{ℕ, _-_, _≤_}
 use mathlib.Core.Path.{_≡_, refl, sym, ap, _∙_}
 use native.Mathlib.Omega.{arith}
 use Rattle.comparing.specs.Kinds.{printsBetween, meetAll}

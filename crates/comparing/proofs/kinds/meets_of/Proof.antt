@@ -1,8 +1,8 @@
 -- From the last column down: the rows that all footprints from a column on have are those of the columns behind it that its own have too.
-use Prim.Native.Nat.{ℕ, suc, _+_, _-_, _^_, _≤_, _<_}
+use Prim.Native.Nat.{ℕ, _+_, _-_, _^_, _≤_, _<_}
 use mathlib.Core.Path.{_≡_, refl, sym, ap, _∙_}
 use native.Mathlib.Omega.{arith}
-use lib.ListN.{length, getD}
+use lib.ListN.{getD}
 use Rattle.comparing.specs.Kinds.{printsBetween, printsIn, meetAll, meetOf}
 use Rattle.comparing.proofs.Settling.{nineOf, RightFrom, right-last, right-more, meets-step}
 use Rattle.comparing.proofs.KindsInWords.{up, next-within}

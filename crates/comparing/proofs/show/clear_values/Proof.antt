@@ -4,12 +4,10 @@ use mathlib.Core.Path.{_≡_, refl, _∙_, ap}
 use mathlib.Core.List.{List}
 use native.Mathlib.Omega.{arith}
 use lib.ListN.{length, set, length-set}
-use Rattle.comparing.proofs.Clearing.{zeros, zeros-more}
+use Rattle.states.proofs.Clearing.{zeros, zeros-more}
 use borrow.Author.Needs.{needs}
 use Rattle.comparing.proofs.show.clear_values.Statement.{statement}
 use Rattle.comparing.proofs.show.clear_values.Tie as tie
-use Rattle.comparing.proofs.show.clear_values.Reads as reads
-use Rattle.comparing.proofs.show.clear_values.Lts as lts
 
 abbrev Inv-loop : tie.InvT-loop
 Inv-loop values₀ i₀ values i = (i ≤ 3584) × (length values ≡ length values₀) × (values ≡ zeros i values₀)

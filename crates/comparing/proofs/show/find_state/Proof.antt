@@ -6,9 +6,9 @@ use native.Mathlib.Omega.{arith}
 use Rattle.judging.specs.Requests.{text}
 use Rattle.judging.specs.Judging.{rowsOf}
 use Rattle.matching.specs.Codes.{codesOf}
-use Rattle.comparing.specs.Columns.{valuesIn}
+use Rattle.columns.specs.Values.{valuesIn}
 use Rattle.comparing.specs.Product.{printOf}
-use Rattle.comparing.specs.Search.{stringOf}
+use Rattle.states.specs.Search.{stringOf}
 use Rattle.comparing.proofs.Exploring.{string-reaches}
 use Rattle.comparing.proofs.FirstFound.{none-next}
 use borrow.Author.Needs.{needs}

@@ -6,11 +6,11 @@ use mathlib.Core.List.{_++_}
 use native.Mathlib.Omega.{arith}
 use Rattle.judging.specs.Requests.{absent, isPresent}
 use Rattle.judging.specs.Judging.{rowsOf}
-use Rattle.comparing.specs.Columns.{networksIn}
+use Rattle.columns.specs.Values.{networksIn}
 use Rattle.comparing.specs.Compared.{addressIn}
 use Rattle.comparing.specs.Product.{printOf}
 use Rattle.comparing.specs.ShownValues.{NoneBelow}
-use Rattle.comparing.proofs.Edges.{edge-high, next-edge-above}
+use Rattle.columns.proofs.Edges.{edge-high, next-edge-above}
 use Rattle.comparing.proofs.FirstFound.{absence-found, address-found, none-found, none-more}
 use borrow.Author.Needs.{needs}
 use Rattle.comparing.proofs.show.show_address.Statement.{statement}

@@ -8,7 +8,7 @@ use Rattle.judging.specs.Judging.{rowsOf}
 use Rattle.comparing.specs.ShownValues.{FirstWith}
 use Rattle.comparing.proofs.AlongPath.{first-at}
 use Rattle.comparing.proofs.LaidValues.{gap-shown}
-use Rattle.comparing.proofs.PlansLaid.{addresses-fit}
+use Rattle.columns.proofs.PlansLaid.{addresses-fit}
 use borrow.Author.Needs.{needs}
 use Rattle.comparing.proofs.show.show_gap.Statement.{statement}
 use Rattle.comparing.proofs.show.show_gap.Tie as tie

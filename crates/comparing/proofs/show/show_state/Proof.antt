@@ -7,9 +7,9 @@ use lib.ListN.{length}
 use Rattle.judging.specs.Judging.{rowsOf}
 use lib.Seq.{sets}
 use Rattle.matching.specs.Codes.{codesOf}
-use Rattle.comparing.specs.Columns.{valuesIn}
+use Rattle.columns.specs.Values.{valuesIn}
 use Rattle.comparing.proofs.FirstFound.{codes-few, starts-low, string-found, string-short}
-use Rattle.comparing.proofs.StringsOfRows.{keyed}
+use Rattle.states.proofs.StringsOfRows.{keyed}
 use borrow.Author.Needs.{needs}
 use Rattle.comparing.proofs.show.show_state.Statement.{statement}
 use Rattle.comparing.proofs.show.show_state.Tie as tie

@@ -1,21 +1,14 @@
 -- A footprint that is among them adds nothing; another one goes behind them.
-use Prim.Native.Nat.{ℕ, _+_, _-_, _≤_, _<_}
-use mathlib.Core.Path.{_≡_, refl, sym, ap, _∙_}
-use mathlib.Core.Bool.{Bool, true, false}
-use mathlib.Core.List.{List, [], _∷_, _++_}
+use Prim.Native.Nat.{_+_}
+use mathlib.Core.Path.{refl, sym, _∙_}
 use native.Mathlib.Omega.{arith}
-use lib.ListN.{length, take, length-set}
+use lib.ListN.{length-set}
 use lib.Seq.{take-set-le}
-use Rattle.stored.specs.Choice.{pick}
-use Rattle.comparing.specs.Kinds.{printsAt}
-use Rattle.comparing.specs.Survey.{printsBetween}
+use Rattle.states.specs.Rows.{printsAt}
 use Rattle.comparing.proofs.AddingPrints.{prints-more}
 use borrow.Author.Needs.{needs}
 use Rattle.comparing.proofs.survey.add_print.Statement.{statement}
 use Rattle.comparing.proofs.survey.add_print.Tie as tie
-use Rattle.comparing.proofs.survey.add_print.Reads as reads
-use Rattle.comparing.proofs.survey.add_print.Lts as lts
-use Rattle.comparing.proofs.survey.is_among.Reads as is-among-reads
 
 is-among-requires : tie.Need-is-among-requires
 is-among-requires c κs = search needs

@@ -10,13 +10,15 @@ use Rattle.stored.specs.Choice.{pick}
 use Rattle.matching.specs.Codes.{codesOf}
 use Rattle.judging.specs.Requests.{absent, text}
 use Rattle.judging.specs.Judging.{rowsOf}
-use Rattle.comparing.specs.Columns.{valuesIn, sumOf}
-use Rattle.comparing.specs.Kinds.{printsAt}
+use Rattle.columns.specs.Values.{valuesIn, sumOf}
+use Rattle.states.specs.Rows.{printsAt, mostStates, codesAt}
 use Rattle.comparing.specs.Product.{printOf}
-use Rattle.comparing.specs.Search.{mostStates, codesAt, stringOf, addingRows}
+use Rattle.states.specs.Search.{stringOf}
+use Rattle.comparing.specs.Adding.{addingRows}
 use Rattle.comparing.specs.Survey.{printsBetween, printAt}
-use Rattle.comparing.proofs.AddingPrints.{row-added, front-kept}
-use Rattle.comparing.proofs.PlansLaid.{plans-stay}
+use Rattle.states.proofs.Parts.{front-kept}
+use Rattle.comparing.proofs.AddingPrints.{row-added}
+use Rattle.columns.proofs.PlansLaid.{plans-stay}
 use Rattle.comparing.proofs.StatesKept.{row-stays}
 use Rattle.comparing.proofs.Exploring.{string-reaches}
 use Rattle.comparing.proofs.survey.gather_rows.Statement.{statement}

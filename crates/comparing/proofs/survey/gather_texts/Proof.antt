@@ -1,17 +1,17 @@
 -- Three ways, by the column and by whether it has a value; each leaves the footprints of the first values.
-use Prim.Native.Nat.{_+_, _-_}
+use Prim.Native.Nat.{_+_}
 use mathlib.Core.Path.{sym, _∙_}
 use mathlib.Core.Bool.{true}
 use mathlib.Core.List.{_++_}
 use native.Mathlib.Omega.{arith}
 use Rattle.matching.specs.Codes.{codesOf}
 use Rattle.judging.specs.Judging.{rowsOf}
-use Rattle.comparing.specs.Columns.{valuesIn, sumOf}
-use Rattle.comparing.specs.Kinds.{printsAt}
-use Rattle.comparing.specs.Search.{stringOf}
-use Rattle.comparing.proofs.AddingPrints.{front-kept}
+use Rattle.columns.specs.Values.{valuesIn, sumOf}
+use Rattle.states.specs.Rows.{printsAt}
+use Rattle.states.specs.Search.{stringOf}
+use Rattle.states.proofs.Parts.{front-kept}
 use Rattle.comparing.proofs.Exploring.{string-reaches}
-use Rattle.comparing.proofs.PlansLaid.{plans-stay}
+use Rattle.columns.proofs.PlansLaid.{plans-stay}
 use Rattle.comparing.proofs.TextsGathered.{gathered-none, gathered-needed, gathered-optional, states-stay}
 use Rattle.comparing.proofs.survey.gather_texts.Statement.{statement}
 use Rattle.comparing.proofs.survey.gather_texts.Tie as tie

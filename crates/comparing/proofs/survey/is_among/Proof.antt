@@ -1,8 +1,6 @@
 -- No footprint before the index is the one looked for, so that it is among all of them just when it is among the rest: that is the invariant.
-use Prim.Native.Nat.{ℕ, _+_, _-_, _≤_, _<_}
+use Prim.Native.Nat.{ℕ, _-_, _≤_}
 use mathlib.Core.Path.{_≡_, refl, sym, ap, _∙_}
-use mathlib.Core.Bool.{Bool, true, false, _||_}
-use mathlib.Core.List.{List}
 use native.Mathlib.Omega.{arith}
 use lib.Dec.{eqb}
 use borrow.Author.Tests.{eq-eqb, ne-eqb}
@@ -12,8 +10,6 @@ use Rattle.comparing.proofs.AddingPrints.{prints-none, prints-next}
 use borrow.Author.Needs.{needs}
 use Rattle.comparing.proofs.survey.is_among.Statement.{statement}
 use Rattle.comparing.proofs.survey.is_among.Tie as tie
-use Rattle.comparing.proofs.survey.is_among.Reads as reads
-use Rattle.comparing.proofs.survey.is_among.Lts as lts
 
 abbrev Inv-loop : tie.InvT-loop
 Inv-loop words from to print i₀ i =

@@ -4,8 +4,6 @@ use native.Mathlib.Omega.{arith}
 use borrow.Author.Needs.{needs}
 use Rattle.comparing.proofs.survey.most_kinds.Statement.{statement}
 use Rattle.comparing.proofs.survey.most_kinds.Tie as tie
-use Rattle.comparing.proofs.survey.most_kinds.Reads as reads
-use Rattle.comparing.proofs.survey.most_kinds.Lts as lts
 
 mul-product : tie.Need-mul-product
 mul-product c = omega (arith, mul-le-mul-left (c .args .kinds) (c .pre .1))

@@ -1,13 +1,10 @@
 -- By the test.
-use mathlib.Core.Path.{_≡_, sym}
+use mathlib.Core.Path.{sym}
 use borrow.Author.Tests.{lt-ltb, le-ltb}
 use native.Mathlib.Omega.{arith}
 use Rattle.comparing.specs.Compared.{mostKinds}
-use borrow.Author.Needs.{needs}
 use Rattle.comparing.proofs.survey.next_bound.Statement.{statement}
 use Rattle.comparing.proofs.survey.next_bound.Tie as tie
-use Rattle.comparing.proofs.survey.next_bound.Reads as reads
-use Rattle.comparing.proofs.survey.next_bound.Lts as lts
 
 returns : tie.Need-returns
 returns c = sym (rw (lt-ltb mostKinds (c .before .args .kinds) (omega arith)))

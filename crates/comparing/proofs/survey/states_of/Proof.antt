@@ -1,18 +1,16 @@
 -- The codes of the first table's values and those of the second's lie one behind the other in the workspace, and the search goes by them.
-use Prim.Native.Nat.{ℕ, suc, _+_, _≤_}
-use mathlib.Core.Path.{_≡_, refl, sym, ap, _∙_, subst}
-use mathlib.Core.List.{List, _++_}
+use Prim.Native.Nat.{ℕ, suc, _≤_}
+use mathlib.Core.Path.{_≡_, _∙_, subst}
+use mathlib.Core.List.{List}
 use mathlib.Core.Logic.{_⊎_}
 use native.Mathlib.Omega.{arith}
-use lib.ListN.{length, take, drop}
-use lib.Seq.{length-take-le}
-use Rattle.matching.specs.Codes.{codesOf}
+use lib.ListN.{length}
 use Rattle.judging.specs.Judging.{rowsOf}
-use Rattle.comparing.specs.Columns.{valuesIn, sumOf}
-use Rattle.comparing.specs.Search.{mostStates, Explored, Exceeded}
-use Rattle.comparing.proofs.Widths.{sum-both}
+use Rattle.states.specs.Rows.{mostStates}
+use Rattle.states.specs.Search.{Explored, Exceeded}
+use Rattle.columns.proofs.Widths.{sum-both}
 use Rattle.comparing.proofs.LaidCodes.{withCodes, with-length, part-length, codes-both-laid, prints-stay}
-use Rattle.comparing.proofs.TakenRows.{codes-stay, searchable-laid}
+use Rattle.states.proofs.TakenRows.{codes-stay, searchable-laid}
 use borrow.Author.Needs.{needs}
 use Rattle.comparing.proofs.survey.states_of.Statement.{statement}
 use Rattle.comparing.proofs.survey.states_of.Tie as tie

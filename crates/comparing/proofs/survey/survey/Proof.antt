@@ -1,25 +1,16 @@
 -- The columns below the one at hand were surveyed: that is the invariant.
-use Prim.Native.Nat.{ℕ, suc, _+_, _-_, _≤_, _<_}
-use mathlib.Core.Path.{_≡_, refl, sym, ap, _∙_, subst}
-use mathlib.Core.List.{List, _++_}
+use Prim.Native.Nat.{ℕ, _-_, _≤_}
+use mathlib.Core.Path.{_≡_, refl, sym, _∙_, subst}
 use native.Mathlib.Numerals.{add-one}
 use native.Mathlib.Omega.{arith}
-use lib.Dec.{ltb}
 use lib.ListN.{length, set}
 use Rattle.judging.specs.Judging.{rowsOf}
-use Rattle.comparing.specs.Compared.{mostKinds}
-use Rattle.comparing.specs.Survey.{SurveyedColumn, Listed}
+use Rattle.comparing.specs.Survey.{SurveyedColumn}
 use Rattle.comparing.specs.declared.survey.Column.{Column}
-use Rattle.comparing.specs.declared.survey.Column.the-variants as C
 use Rattle.comparing.proofs.ColumnsSurveyed.{ColumnsUpto, columns-begin, columns-on, columns-end}
 use borrow.Author.Needs.{needs}
 use Rattle.comparing.proofs.survey.survey.Statement.{statement}
 use Rattle.comparing.proofs.survey.survey.Tie as tie
-use Rattle.comparing.proofs.survey.survey.Reads as reads
-use Rattle.comparing.proofs.survey.survey.Lts as lts
-use Rattle.comparing.proofs.survey.most_kinds.Reads as most-kinds-reads
-use Rattle.comparing.proofs.survey.next_bound.Reads as next-bound-reads
-use Rattle.comparing.proofs.survey.survey_column.Reads as survey-column-reads
 
 abbrev Inv-loop : tie.InvT-loop
 Inv-loop words₀ first second size bounds₀ from₀ kinds₀ column₀ words bounds from kinds column =

@@ -1,0 +1,111 @@
+-- The plans of two tables in the workspace: where they were laid down they can be read, there is room for them, and they stay where only
+-- footprints are written.
+use Prim.Native.Nat.{ℕ, suc, _+_, _≤_}
+use mathlib.Core.Path.{_≡_, refl, ap, _∙_}
+use mathlib.Core.Bool.{Bool, true, false}
+use mathlib.Core.List.{List, [], _∷_, _++_}
+use native.Mathlib.Omega.{arith}
+use lib.ListN.{length, take, drop, set, length-append}
+use lib.Seq.{sets, sets-eq, length-sets, slice, take-at, drop-at, take-set-le, drop-set-lt, length-take-le}
+use Rattle.stored.specs.Entries.{entriesOf, Accepted}
+use Rattle.judging.specs.Judging.{rowsOf}
+use Rattle.states.specs.Rows.{printsAt, codesAt}
+use Rattle.columns.specs.Both.{Narrow, FewNetworks}
+use Rattle.columns.specs.Plan.{planOf, PlansFit, HasPlans, LaysPlans}
+use Rattle.columns.specs.declared.plan.Plans.{Plans}
+use Rattle.states.proofs.Parts.{front-kept}
+use Rattle.columns.proofs.PlanShort.{plan-short, addresses-short}
+use Rattle.columns.proofs.Widths.{sum-both, networks-both}
+
+-- words laid down: those before them and behind them stay, and they can be read
+sets-front : (run words : List ℕ) (at k : ℕ) → k ≤ at → take k (sets words at run) ≡ take k words
+sets-front [] words at k low = refl
+sets-front (x ∷ run) words at k low = sets-front run (set words at x) (suc at) k (omega arith) ∙ take-set-le k words at x low
+
+sets-behind : (run words : List ℕ) (at k : ℕ) → at + length run ≤ k → drop k (sets words at run) ≡ drop k words
+sets-behind [] words at k high = refl
+sets-behind (x ∷ run) words at k high = sets-behind run (set words at x) (suc at) k (omega arith) ∙ drop-set-lt k words at x (omega arith)
+
+sets-there : (run words : List ℕ) (at : ℕ) → at + length run ≤ length words → slice at (at + length run) (sets words at run) ≡ run
+sets-there run words at room =
+    ap (λ (l : List ℕ). drop at (take (at + length run) l)) (sets-eq run words at room)
+    ∙ ap (drop at) (take-at (take at words ++ run) (drop (at + length run) words) (at + length run) size)
+    ∙ drop-at (take at words) run at front
+  where
+    front : length (take at words) ≡ at
+    front = length-take-le at words (omega arith)
+
+    size : length (take at words ++ run) ≡ at + length run
+    size = omega (arith, length-append (take at words) run, front)
+
+module _ (first second : List ℕ) (one : Accepted (entriesOf first)) (two : Accepted (entriesOf second)) (few : length (rowsOf first) ≤ 32)
+    (more : length (rowsOf second) ≤ 32) where
+  -- both plans lie below the footprints
+  pub texts-fit : (column from : ℕ) → Narrow (rowsOf first ++ rowsOf second) column → PlansFit first second column true from
+  texts-fit column from narrow =
+      omega (
+        arith,
+        plan-short column 0 (entriesOf first) one,
+        plan-short column from (entriesOf second) two,
+        sum-both column (rowsOf first) (rowsOf second),
+        narrow,
+      )
+
+  pub addresses-fit : FewNetworks (rowsOf first ++ rowsOf second) → PlansFit first second 7 false 0
+  addresses-fit narrow =
+      omega (
+        arith,
+        addresses-short 0 (entriesOf first) one,
+        addresses-short 0 (entriesOf second) two,
+        networks-both (rowsOf first) (rowsOf second),
+        narrow,
+      )
+
+module _ (first second : List ℕ) (column : ℕ) (strings : Bool) (from : ℕ) (fit : PlansFit first second column strings from) where
+  -- one laid down behind the other
+  pub plans-laid : (words : List ℕ) (middle last : ℕ) → printsAt ≤ length words
+      → middle ≡ codesAt + length (planOf column strings 0 (entriesOf first))
+      → last ≡ middle + length (planOf column strings from (entriesOf second))
+      → LaysPlans first second column strings from words
+      (sets (sets words codesAt (planOf column strings 0 (entriesOf first))) middle (planOf column strings from (entriesOf second)))
+      (record { middle = middle; end = last })
+  plans-laid words middle last room is ends =
+      record {
+        has =
+            record {
+              own =
+                  ap (drop codesAt) (sets-front b begun middle middle (omega arith))
+                  ∙ ap (λ (n : ℕ). slice codesAt n begun) is
+                  ∙ sets-there a words codesAt (omega (arith, fit));
+              other =
+                  ap (λ (n : ℕ). slice middle n (sets begun middle b)) ends
+                  ∙ sets-there b begun middle (omega (arith, fit, length-sets words codesAt a));
+              order = omega arith;
+              within = omega (arith, fit);
+            };
+        front = sets-front b begun middle codesAt (omega arith) ∙ sets-front a words codesAt codesAt (omega arith);
+        kept = sets-behind b begun middle printsAt (omega (arith, fit)) ∙ sets-behind a words codesAt printsAt (omega (arith, fit));
+        same = length-sets begun middle b ∙ length-sets words codesAt a;
+      }
+    where
+      a : List ℕ
+      a = planOf column strings 0 (entriesOf first)
+
+      b : List ℕ
+      b = planOf column strings from (entriesOf second)
+
+      begun : List ℕ
+      begun = sets words codesAt a
+
+-- footprints are written behind the plans
+pub plans-stay : (first second : List ℕ) (column : ℕ) (strings : Bool) (from : ℕ) (words after : List ℕ) (plans : Plans) → take printsAt after ≡ take printsAt words
+    → HasPlans first second column strings from words plans → HasPlans first second column strings from after plans
+plans-stay first second column strings from words after plans same h =
+    let order = h .order in
+    let within = h .within in
+    record {
+      own = ap (drop codesAt) (front-kept after words printsAt (plans .middle) same (omega arith)) ∙ h .own;
+      other = ap (drop (plans .middle)) (front-kept after words printsAt (plans .end) same (omega arith)) ∙ h .other;
+      order = order;
+      within = within;
+    }

@@ -1,0 +1,32 @@
+-- The words below the first value are a statement and the two lists.
+use mathlib.Core.Path.{ap, _∙_}
+use mathlib.Core.Bool.{Bool}
+use borrow.Author.Tests.{lt-ltb, le-ltb}
+use Rattle.columns.specs.Plan.{seenRun, runWord}
+use borrow.Author.Needs.{needs}
+use Rattle.columns.proofs.runs.address_word.Statement.{statement}
+use Rattle.columns.proofs.runs.address_word.Tie as tie
+
+opened-by-requires : tie.Need-opened-by-requires
+opened-by-requires c κs = search needs
+
+returns : tie.Need-returns
+unfolding runWord
+returns c = rw (lt-ltb (c .before .before .args .word) 4 (c .before .if1 .taken)) (c .opened-by .ensures)
+
+in-planned-requires : tie.Need-in-planned-requires
+in-planned-requires c κs = search needs
+
+value-seen-requires : tie.Need-value-seen-requires
+value-seen-requires c κs = search needs
+
+returns-2 : tie.Need-returns-2
+unfolding runWord
+returns-2 c =
+    rw (le-ltb (c .before .before .before .args .word) 4 (c .before .before .if1 .left))
+    (c .value-seen .ensures ∙ ap (λ (hit : Bool). seenRun hit (c .before .before .before .args .run)) (c .before .in-planned .ensures))
+
+pub address-word-spec : {M : Type 1} → statement M
+address-word-spec =
+    tie.close
+    (tie.spec opened-by-requires returns in-planned-requires value-seen-requires returns-2)

@@ -1,0 +1,108 @@
+-- What the functions that explore a column promise each other. A step from row i by byte b has the number i * 128 + b, and a row's key is
+-- the number of the step that found it.
+use Prim.Native.Nat.{ℕ, zero, suc, _+_, _*_, _/_, _%_, _≤_, _<_}
+use mathlib.Core.Path.{_≡_}
+use mathlib.Core.Bool.{Bool, true, false}
+use mathlib.Core.List.{List, [], _∷_}
+use mathlib.Core.Logic.{_⊎_}
+use lib.Dec.{eqb}
+use lib.ListN.{length, drop}
+use Rattle.stored.specs.Choice.{pick}
+use Rattle.matching.specs.Rows.{firstRow, stepRow, forward}
+use Rattle.states.specs.Rows.{printsAt, mostStates, codesAt, rowAt, keyAt, codesLaid, IsByte, leaderLaid}
+use Rattle.states.specs.Taken.{Takes}
+
+-- no byte from one on below r leads; r is a byte, or the number behind the last
+pub record NextLeader (words : List ℕ) (from r : ℕ) : Type 0 where
+  pub low : from ≤ r
+  pub high : r ≤ 127
+  pub between : (x : ℕ) → from ≤ x → x < r → leaderLaid words x ≡ 0
+
+-- a workspace that has room for a search, and the codes of so many positions
+pub record Searchable (positions : ℕ) (words : List ℕ) : Type 0 where
+  pub most : positions ≤ 512
+  pub room : printsAt ≤ length words
+  pub takes : Takes (codesLaid positions words) words
+
+-- where the step from row i by byte b leads, given the codes of the column
+abbrev pub stepFrom : List ℕ → List ℕ → ℕ → ℕ → List ℕ
+stepFrom codes words i b = stepRow codes b (rowAt words i)
+
+-- n rows were found by the steps before number t, in the order of the steps
+pub record Partial (codes words : List ℕ) (n t : ℕ) : Type 0 where
+  pub some : 0 < n
+  pub few : n ≤ mostStates
+  pub first : rowAt words 0 ≡ firstRow codes
+  pub distinct : (i j : ℕ) → i < j → j < n → rowAt words i ≡ rowAt words j → ⊥
+  pub parent : (j : ℕ) → 0 < j → j < n → keyAt words j / 128 < j
+  pub byte : (j : ℕ) → 0 < j → j < n → IsByte (keyAt words j % 128)
+  pub found : (j : ℕ) → 0 < j → j < n → rowAt words j ≡ stepFrom codes words (keyAt words j / 128) (keyAt words j % 128)
+  pub ascending : (i j : ℕ) → 0 < i → i < j → j < n → keyAt words i < keyAt words j
+  pub early : (j : ℕ) → 0 < j → j < n → keyAt words j < t
+  pub tried :
+      (i b : ℕ) → i < n → IsByte b → i * 128 + b < t
+      → (j : ℕ) × (j < n) × (rowAt words j ≡ stepFrom codes words i b) × ((j ≡ 0) ⊎ (keyAt words j ≤ i * 128 + b))
+
+-- all steps from n rows were tried
+abbrev pub Explored : List ℕ → List ℕ → ℕ → Type 0
+Explored codes words n = Partial codes words n (n * 128)
+
+-- there are 512 rows, and a step from one of them leads to another
+pub record Exceeded (codes words : List ℕ) : Type 0 where
+  pub rest : ℕ
+  pub full : Partial codes words mostStates rest
+  pub row : ℕ
+  pub by : ℕ
+  pub low : row < mostStates
+  pub byte : IsByte by
+  pub new : (j : ℕ) → j < mostStates → rowAt words j ≡ stepFrom codes words row by → ⊥
+
+-- a search went on from n rows to the step before number t: r rows were found, or there are too many; the codes stay
+pub record Searched (positions : ℕ) (before after : List ℕ) (n t r : ℕ) : Type 0 where
+  pub kept : drop codesAt after ≡ drop codesAt before
+  pub more : n ≤ r
+  pub answer :
+      ((r ≤ mostStates) × Partial (codesLaid positions before) after r t) ⊎ ((r ≡ suc mostStates) × Exceeded (codesLaid positions before) after)
+
+-- a whole search: all r rows of a column, or there are too many; the codes and what lies behind them stay
+pub record Explores (codes before after : List ℕ) (r : ℕ) : Type 0 where
+  pub kept : drop codesAt after ≡ drop codesAt before
+  pub answer : ((r ≤ mostStates) × Explored codes after r) ⊎ ((r ≡ suc mostStates) × Exceeded codes after)
+
+-- an answer that says whether P
+abbrev pub Tells : Bool → Type 0 → Type 0
+Tells true P = P
+Tells false P = P → ⊥
+
+-- r is the lowest of n rows that is this one, or n
+pub record FirstAt (words : List ℕ) (n : ℕ) (row : List ℕ) (r : ℕ) : Type 0 where
+  pub low : r ≤ n
+  pub here : r < n → rowAt words r ≡ row
+  pub before : (j : ℕ) → j < r → rowAt words j ≡ row → ⊥
+
+-- r is one of n rows that is this one, or n where none is
+pub record FoundAt (words : List ℕ) (n : ℕ) (row : List ℕ) (r : ℕ) : Type 0 where
+  pub low : r ≤ n
+  pub here : r < n → rowAt words r ≡ row
+  pub none : n ≤ r → (j : ℕ) → j < n → rowAt words j ≡ row → ⊥
+
+-- each of n rows but the first has an older one and a byte that it was found by
+pub record Keyed (words : List ℕ) (n : ℕ) : Type 0 where
+  pub parent : (j : ℕ) → 0 < j → j < n → keyAt words j / 128 < j
+  pub byte : (j : ℕ) → 0 < j → j < n → IsByte (keyAt words j % 128)
+
+-- row i is one of n whose strings can be read off
+pub record HasString (words : List ℕ) (i n : ℕ) : Type 0 where
+  pub keyed : Keyed words n
+  pub low : i < n
+  pub few : n ≤ mostStates
+  pub room : 4608 ≤ length words
+
+-- the string that a row was found by, last byte first, read off the keys (at most as many bytes as the first number says)
+abbrev pub chain : ℕ → List ℕ → ℕ → List ℕ
+chain zero words i = []
+chain (suc fuel) words i = pick (eqb i 0) [] (keyAt words i % 128 ∷ chain fuel words (keyAt words i / 128))
+
+-- the string that row i was found by
+abbrev pub stringOf : List ℕ → ℕ → List ℕ
+stringOf words i = forward (chain i words i)

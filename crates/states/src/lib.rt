@@ -1,0 +1,6 @@
+// The states of the strings of a column: which positions take which byte, and all states that strings lead to.
+pub mod explore;
+pub mod limits;
+pub mod rows;
+pub mod strings;
+pub mod taken;

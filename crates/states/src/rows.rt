@@ -1,0 +1,77 @@
+// Words of the workspace: all of them zero, and rows of eight.
+ghost use mathlib.Core.Path.{_≡_};
+ghost use Prim.Native.Nat.{_+_, _*_, _≤_};
+ghost use lib.ListN.{length, replicate};
+ghost use lib.Seq.{sets};
+ghost use Rattle.states.specs.Rows.{rowAt};
+ghost use Rattle.states.specs.Search.{Tells, FirstAt};
+
+// All words are zero.
+pub fn clear(words: &mut [u64])
+    ensures { λ r. ⌜ now (words .exit) ≡ replicate (length (now (words .entry))) 0 ⌝ }
+{
+    let mut i: usize = 0;
+    while i < words.len() {
+        words[i] = 0;
+        i += 1;
+    }
+}
+
+// Row i.
+pub fn row_at(words: &[u64], i: usize) -> [u64; 8]
+    requires { ⌜ i * 8 + 8 ≤ length (now words) ⌝ }
+    ensures { λ r. ⌜ r ≡ rowAt (now (words .entry)) i ⌝ }
+{
+    let at = i * 8;
+    let mut row = [0u64; 8];
+    let mut k: usize = 0;
+    while k < 8 {
+        row[k] = words[at + k];
+        k += 1;
+    }
+    row
+}
+
+// Lays row i down and changes no other word.
+pub(crate) fn put_row(words: &mut [u64], i: usize, row: [u64; 8])
+    requires { ⌜ i * 8 + 8 ≤ length (now words) ⌝ }
+    ensures { λ r. ⌜ now (words .exit) ≡ sets (now (words .entry)) (i * 8) row ⌝ }
+{
+    let at = i * 8;
+    let mut k: usize = 0;
+    while k < 8 {
+        words[at + k] = row[k];
+        k += 1;
+    }
+}
+
+// Whether row i is this one.
+pub(crate) fn is_row(words: &[u64], i: usize, row: [u64; 8]) -> bool
+    requires { ⌜ i * 8 + 8 ≤ length (now words) ⌝ }
+    ensures { λ r. ⌜ Tells r (rowAt (now (words .entry)) i ≡ row) ⌝ }
+{
+    let at = i * 8;
+    let mut k: usize = 0;
+    while k < 8 {
+        if words[at + k] != row[k] {
+            return false;
+        }
+        k += 1;
+    }
+    true
+}
+
+// The lowest of n rows that is this one, or n.
+pub(crate) fn find_row(words: &[u64], n: usize, row: [u64; 8]) -> usize
+    requires { ⌜ n * 8 ≤ length (now words) ⌝ }
+    ensures { λ r. ⌜ FirstAt (now (words .entry)) n row r ⌝ }
+{
+    let mut i: usize = 0;
+    while i < n {
+        if is_row(words, i, row) {
+            return i;
+        }
+        i += 1;
+    }
+    n
+}
