@@ -2,12 +2,12 @@
 -- seven others.
 use Prim.Native.Nat.{ℕ, zero, suc, _+_}
 use mathlib.Core.Path.{_≡_, refl, sym, _∙_, ap, ap₂}
-use mathlib.Core.Bool.{Bool, true, false, not, _&&_, _||_, and-true}
+use mathlib.Core.Bool.{Bool, true, false, _&&_, and-true}
 use mathlib.Core.List.{List, [], _∷_}
 use lib.Dec.{eqb}
 use Rattle.stored.specs.Choice.{pick, every}
 use Rattle.stored.specs.Items.{columnPlace, keyCode}
-use Rattle.stored.specs.Tables.{Element, Condition, Statement}
+use Rattle.stored.specs.Tables.{Statement}
 use Rattle.stored.specs.declared.items.Column.{Column}
 use Rattle.stored.specs.declared.items.Column.the-variants as C
 use Rattle.stored.specs.declared.items.Key.{Key}

@@ -5,7 +5,7 @@ use mathlib.Core.Bool.{Bool, true, false}
 use mathlib.Core.List.{List}
 use lib.Dec.{ltb}
 use Rattle.stored.specs.Choice.{pick}
-use Rattle.judging.specs.Requests.{Value, absent, text, number, isFaulty, keyValue}
+use Rattle.judging.specs.Requests.{absent, number, isFaulty, keyValue}
 
 -- a key is faulty in each of its columns as it is in column 3
 pub key-fault : (column : ℕ) → ltb column 3 ≡ false → (here : Bool) (s : List ℕ)

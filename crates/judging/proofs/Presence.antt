@@ -5,7 +5,7 @@ use mathlib.Core.Bool.{Bool, true, false}
 use mathlib.Core.List.{List}
 use lib.Dec.{eqb}
 use Rattle.stored.specs.Choice.{pick}
-use Rattle.judging.specs.Requests.{Value, absent, text, number, isPresent}
+use Rattle.judging.specs.Requests.{text, number, isPresent}
 use Rattle.judging.specs.Walk.{valueIn}
 
 pub present-in : (column : ℕ) (here : Bool) (s : List ℕ) (address : ℕ) → isPresent (valueIn column here s address) ≡ here

@@ -1,6 +1,6 @@
 -- The judge's answer part by part: the table's refusal, then 9 at the lowest faulty column, then the verdict.
 use Prim.Native.Nat.{ℕ, _<_, _≤_}
-use mathlib.Core.Path.{_≡_, sym}
+use mathlib.Core.Path.{_≡_}
 use mathlib.Core.List.{List}
 use borrow.Author.Tests.{lt-ltb, le-ltb}
 use Rattle.stored.specs.Reading.{reading}

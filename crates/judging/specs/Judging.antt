@@ -1,6 +1,5 @@
 -- The judge's answer (document 01, "What matches what" and "Order"): the table's refusal, then 9 by column, then the verdict.
 use Prim.Native.Nat.{ℕ}
-use mathlib.Core.Bool.{Bool}
 use mathlib.Core.List.{List}
 use lib.Bits.{bitAnd}
 use lib.Dec.{eqb, ltb}

@@ -2,7 +2,7 @@
 -- lists of them the state machine takes.
 use Prim.Native.Nat.{ℕ, zero, suc, _+_, _-_, _^_, _<_}
 use mathlib.Core.Path.{_≡_}
-use mathlib.Core.Bool.{Bool, true}
+use mathlib.Core.Bool.{true}
 use mathlib.Core.List.{List, [], _∷_, _++_}
 use lib.ListN.{length, take, drop}
 use lib.Seq.{sets}
@@ -21,7 +21,6 @@ use Rattle.stored.specs.declared.machine.State.{State}
 use Rattle.stored.specs.declared.machine.Turn.{Turn}
 use Rattle.stored.specs.declared.machine.Turn.the-variants as T
 use Rattle.stored.specs.declared.writer.Writer.{Writer}
-use Rattle.stored.specs.declared.writer.WriteAnswer.{WriteAnswer}
 use Rattle.stored.specs.declared.writer.WriteAnswer.the-variants as W
 
 -- a record as data

@@ -1,6 +1,5 @@
 -- Reading a table: 1 over 16,384 bytes, then the first faulty record, or the number of statements (document 01, "Order").
 use Prim.Native.Nat.{ℕ, zero, suc, _+_}
-use mathlib.Core.Bool.{Bool}
 use mathlib.Core.List.{List}
 use lib.Dec.{eqb, ltb}
 use lib.ListN.{length, getD, take, drop}

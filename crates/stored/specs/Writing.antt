@@ -1,7 +1,6 @@
 -- Writing a table: an item is refused as the reader would refuse its record at that point, then 1, then 14; an accepted item adds
 -- its record behind the last and changes no other byte.
 use Prim.Native.Nat.{ℕ, _+_, _/_, _%_, _≤_}
-use mathlib.Core.Bool.{Bool}
 use mathlib.Core.List.{List, [], _∷_}
 use lib.Dec.{ltb}
 use lib.ListN.{length}

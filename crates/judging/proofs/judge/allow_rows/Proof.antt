@@ -8,9 +8,6 @@ use Rattle.judging.specs.Judging.{rowsOf}
 use Rattle.judging.proofs.ByColumn.{allowing}
 use Rattle.judging.proofs.judge.allow_rows.Statement.{statement}
 use Rattle.judging.proofs.judge.allow_rows.Tie as tie
-use Rattle.judging.proofs.judge.allow_rows.Reads as reads
-use Rattle.judging.proofs.judge.allow_rows.Lts as lts
-use Rattle.judging.proofs.rows.rows_in.Reads as rows-in-reads
 
 rows-in-requires : tie.Need-rows-in-requires
 rows-in-requires c κs = search needs

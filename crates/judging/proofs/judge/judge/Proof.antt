@@ -7,10 +7,6 @@ use Rattle.judging.specs.Requests.{requestOf}
 use Rattle.judging.proofs.Refusing.{table-refused, table-reads}
 use Rattle.judging.proofs.judge.judge.Statement.{statement}
 use Rattle.judging.proofs.judge.judge.Tie as tie
-use Rattle.judging.proofs.judge.judge.Reads as reads
-use Rattle.judging.proofs.judge.judge.Lts as lts
-use Rattle.judging.proofs.judge.judge_request.Reads as judge-request-reads
-use Rattle.stored.proofs.reader.read.Reads as read-reads
 
 read-requires : tie.Need-read-requires
 read-requires c κs = search needs

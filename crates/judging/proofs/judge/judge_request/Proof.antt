@@ -6,11 +6,6 @@ use Rattle.judging.specs.Judging.{rowsOf}
 use Rattle.judging.proofs.Refusing.{request-refused, request-sound, rows-decide}
 use Rattle.judging.proofs.judge.judge_request.Statement.{statement}
 use Rattle.judging.proofs.judge.judge_request.Tie as tie
-use Rattle.judging.proofs.judge.judge_request.Reads as reads
-use Rattle.judging.proofs.judge.judge_request.Lts as lts
-use Rattle.judging.proofs.judge.allow_rows.Reads as allow-rows-reads
-use Rattle.judging.proofs.judge.verdict_of.Reads as verdict-of-reads
-use Rattle.judging.proofs.request.first_fault.Reads as first-fault-reads
 
 first-fault-requires : tie.Need-first-fault-requires
 first-fault-requires c κs = search needs

@@ -1,10 +1,7 @@
 -- The tests on the two words are the definition's own.
-use borrow.Author.Needs.{needs}
 use borrow.Author.Tests.{eq-eqb, ne-eqb}
 use Rattle.judging.proofs.judge.verdict_of.Statement.{statement}
 use Rattle.judging.proofs.judge.verdict_of.Tie as tie
-use Rattle.judging.proofs.judge.verdict_of.Reads as reads
-use Rattle.judging.proofs.judge.verdict_of.Lts as lts
 
 returns : tie.Need-returns
 returns c = simp (eq-eqb _ _ (c .before .if1 .taken), eq-eqb _ _ (c .if2 .taken))

@@ -4,10 +4,6 @@ use mathlib.Core.Path.{refl, sym, _∙_}
 use Rattle.judging.proofs.Faults.{key-fault, address-sound}
 use Rattle.judging.proofs.request.first_fault.Statement.{statement}
 use Rattle.judging.proofs.request.first_fault.Tie as tie
-use Rattle.judging.proofs.request.first_fault.Reads as reads
-use Rattle.judging.proofs.request.first_fault.Lts as lts
-use Rattle.judging.proofs.request.is_faulty_key.Reads as is-faulty-key-reads
-use Rattle.judging.proofs.request.is_faulty_needed.Reads as is-faulty-needed-reads
 
 is-faulty-needed-requires : tie.Need-is-faulty-needed-requires
 is-faulty-needed-requires c κs = search needs

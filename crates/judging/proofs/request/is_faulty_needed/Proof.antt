@@ -4,9 +4,6 @@ use mathlib.Core.Path.{sym, _∙_}
 use borrow.Author.Tests.{eq-eqb, ne-eqb}
 use Rattle.judging.proofs.request.is_faulty_needed.Statement.{statement}
 use Rattle.judging.proofs.request.is_faulty_needed.Tie as tie
-use Rattle.judging.proofs.request.is_faulty_needed.Reads as reads
-use Rattle.judging.proofs.request.is_faulty_needed.Lts as lts
-use Rattle.stored.proofs.values.is_in_range.Reads as is-in-range-reads
 
 returns : tie.Need-returns
 returns c = simp (eq-eqb _ _ (c .if1 .taken))

@@ -2,12 +2,6 @@
 use borrow.Author.Needs.{needs}
 use Rattle.judging.proofs.rows.condition_begun.Statement.{statement}
 use Rattle.judging.proofs.rows.condition_begun.Tie as tie
-use Rattle.judging.proofs.rows.condition_begun.Reads as reads
-use Rattle.judging.proofs.rows.condition_begun.Lts as lts
-use Rattle.judging.proofs.rows.key_column.Reads as key-column-reads
-use Rattle.judging.proofs.rows.operator_reading.Reads as operator-reading-reads
-use Rattle.judging.proofs.walk.condition_opened.Reads as condition-opened-reads
-use Rattle.stored.proofs.operators.operator_row.Reads as operator-row-reads
 
 operator-row-requires : tie.Need-operator-row-requires
 operator-row-requires c κs = search needs

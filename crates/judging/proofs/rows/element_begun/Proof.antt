@@ -2,12 +2,6 @@
 use borrow.Author.Needs.{needs}
 use Rattle.judging.proofs.rows.element_begun.Statement.{statement}
 use Rattle.judging.proofs.rows.element_begun.Tie as tie
-use Rattle.judging.proofs.rows.element_begun.Reads as reads
-use Rattle.judging.proofs.rows.element_begun.Lts as lts
-use Rattle.judging.proofs.rows.element_reading.Reads as element-reading-reads
-use Rattle.judging.proofs.walk.opened.Reads as opened-reads
-use Rattle.stored.proofs.items.column_place.Reads as column-place-reads
-use Rattle.stored.proofs.items.is_negated_column.Reads as is-negated-column-reads
 
 column-place-requires : tie.Need-column-place-requires
 column-place-requires c κs = search needs

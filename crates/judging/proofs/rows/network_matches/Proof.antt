@@ -3,9 +3,6 @@ use borrow.Author.Needs.{needs}
 use borrow.Author.Tests.{eq-eqb, ne-eqb}
 use Rattle.judging.proofs.rows.network_matches.Statement.{statement}
 use Rattle.judging.proofs.rows.network_matches.Tie as tie
-use Rattle.judging.proofs.rows.network_matches.Reads as reads
-use Rattle.judging.proofs.rows.network_matches.Lts as lts
-use Rattle.matching.proofs.network.in_network.Reads as in-network-reads
 
 in-network-requires : tie.Need-in-network-requires
 in-network-requires c κs = search needs

@@ -2,9 +2,6 @@
 use borrow.Author.Needs.{needs}
 use Rattle.judging.proofs.rows.operator_reading.Statement.{statement}
 use Rattle.judging.proofs.rows.operator_reading.Tie as tie
-use Rattle.judging.proofs.rows.operator_reading.Reads as reads
-use Rattle.judging.proofs.rows.operator_reading.Lts as lts
-use Rattle.stored.proofs.operators.operator_row.Reads as operator-row-reads
 
 operator-row-requires : tie.Need-operator-row-requires
 operator-row-requires c κs = search needs

@@ -12,12 +12,6 @@ use Rattle.judging.proofs.Records.{record-has-kind}
 use Rattle.judging.proofs.Walking.{run-on, run-cut, run-strange, run-past, walk-means}
 use Rattle.judging.proofs.rows.rows_in.Statement.{statement}
 use Rattle.judging.proofs.rows.rows_in.Tie as tie
-use Rattle.judging.proofs.rows.rows_in.Reads as reads
-use Rattle.judging.proofs.rows.rows_in.Lts as lts
-use Rattle.judging.proofs.rows.step_walk.Reads as step-walk-reads
-use Rattle.judging.proofs.walk.done.Reads as done-reads
-use Rattle.judging.proofs.walk.fresh_walk.Reads as fresh-walk-reads
-use Rattle.stored.proofs.records.record_at.Reads as record-at-reads
 
 abbrev Inv-loop : tie.InvT-loop
 Inv-loop table only column present string address walk₀ at₀ walk at =

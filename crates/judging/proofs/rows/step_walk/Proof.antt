@@ -5,16 +5,6 @@ use Rattle.judging.specs.Walk.{stepOf}
 use Rattle.judging.proofs.Presence.{present-in}
 use Rattle.judging.proofs.rows.step_walk.Statement.{statement}
 use Rattle.judging.proofs.rows.step_walk.Tie as tie
-use Rattle.judging.proofs.rows.step_walk.Reads as reads
-use Rattle.judging.proofs.rows.step_walk.Lts as lts
-use Rattle.judging.proofs.rows.condition_begun.Reads as condition-begun-reads
-use Rattle.judging.proofs.rows.counts.Reads as counts-reads
-use Rattle.judging.proofs.rows.element_begun.Reads as element-begun-reads
-use Rattle.judging.proofs.rows.network_matches.Reads as network-matches-reads
-use Rattle.judging.proofs.rows.text_matches.Reads as text-matches-reads
-use Rattle.judging.proofs.walk.began.Reads as began-reads
-use Rattle.judging.proofs.walk.matters.Reads as matters-reads
-use Rattle.judging.proofs.walk.seen.Reads as seen-reads
 
 enum-told : tie.Need-enum-told
 enum-told c = search needs

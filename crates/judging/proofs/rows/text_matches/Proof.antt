@@ -3,9 +3,6 @@ use borrow.Author.Needs.{needs}
 use borrow.Author.Tests.{eq-eqb, ne-eqb}
 use Rattle.judging.proofs.rows.text_matches.Statement.{statement}
 use Rattle.judging.proofs.rows.text_matches.Tie as tie
-use Rattle.judging.proofs.rows.text_matches.Reads as reads
-use Rattle.judging.proofs.rows.text_matches.Lts as lts
-use Rattle.matching.proofs.value.value_matches.Reads as value-matches-reads
 
 returns : tie.Need-returns
 returns c = simp (c .before .if1 .taken, eq-eqb _ _ (c .if2 .taken))

@@ -2,9 +2,6 @@
 use borrow.Author.Needs.{needs}
 use Rattle.judging.proofs.walk.began.Statement.{statement}
 use Rattle.judging.proofs.walk.began.Tie as tie
-use Rattle.judging.proofs.walk.began.Reads as reads
-use Rattle.judging.proofs.walk.began.Lts as lts
-use Rattle.judging.proofs.walk.done.Reads as done-reads
 
 done-requires : tie.Need-done-requires
 done-requires c κs = search needs

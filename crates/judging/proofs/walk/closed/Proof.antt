@@ -2,8 +2,6 @@
 use borrow.Author.Needs.{needs}
 use Rattle.judging.proofs.walk.closed.Statement.{statement}
 use Rattle.judging.proofs.walk.closed.Tie as tie
-use Rattle.judging.proofs.walk.closed.Reads as reads
-use Rattle.judging.proofs.walk.closed.Lts as lts
 
 returns : tie.Need-returns
 returns c = search needs

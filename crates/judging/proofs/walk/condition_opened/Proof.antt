@@ -2,9 +2,6 @@
 use borrow.Author.Needs.{needs}
 use Rattle.judging.proofs.walk.condition_opened.Statement.{statement}
 use Rattle.judging.proofs.walk.condition_opened.Tie as tie
-use Rattle.judging.proofs.walk.condition_opened.Reads as reads
-use Rattle.judging.proofs.walk.condition_opened.Lts as lts
-use Rattle.judging.proofs.walk.opened.Reads as opened-reads
 
 opened-requires : tie.Need-opened-requires
 opened-requires c κs = search needs

@@ -3,9 +3,6 @@ use borrow.Author.Needs.{needs}
 use mathlib.Core.Path.{sym, _∙_}
 use Rattle.judging.proofs.walk.done.Statement.{statement}
 use Rattle.judging.proofs.walk.done.Tie as tie
-use Rattle.judging.proofs.walk.done.Reads as reads
-use Rattle.judging.proofs.walk.done.Lts as lts
-use Rattle.judging.proofs.walk.closed.Reads as closed-reads
 
 closed-requires : tie.Need-closed-requires
 closed-requires c κs = search needs

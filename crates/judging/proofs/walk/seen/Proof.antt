@@ -1,9 +1,6 @@
 -- Some value matched before, or this one does; `||` is the two branches.
-use borrow.Author.Needs.{needs}
 use Rattle.judging.proofs.walk.seen.Statement.{statement}
 use Rattle.judging.proofs.walk.seen.Tie as tie
-use Rattle.judging.proofs.walk.seen.Reads as reads
-use Rattle.judging.proofs.walk.seen.Lts as lts
 
 returns : tie.Need-returns
 returns c = simp (c .if1 .taken)

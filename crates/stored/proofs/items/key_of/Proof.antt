@@ -1,5 +1,4 @@
 -- `stored::items::key_of` meets its contract: each code leads to its own arm, and a code that is none of them passes every test of `keyOf`.
-use borrow.Author.Needs.{needs}
 use borrow.Author.Tests.{ne-eqb}
 use Rattle.stored.proofs.items.key_of.Statement.{statement}
 use Rattle.stored.proofs.items.key_of.Tie as tie

@@ -1,5 +1,4 @@
 -- `stored::records::statement_of` meets its contract: each code leads to its own arm, and a code that is none of them passes every test of `statementOf`.
-use borrow.Author.Needs.{needs}
 use borrow.Author.Tests.{ne-eqb}
 use Rattle.stored.proofs.records.statement_of.Statement.{statement}
 use Rattle.stored.proofs.records.statement_of.Tie as tie
