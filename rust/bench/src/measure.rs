@@ -8,14 +8,15 @@ use crate::clock;
 /// How long one batch of repetitions shall take.
 const BATCH: Duration = Duration::from_millis(1);
 const BATCHES: usize = 5;
-/// What takes longer than this is run once.
+/// What takes longer than this is run twice only.
 const LONG: Duration = Duration::from_millis(10);
 
-/// The time of one call: the median of some batches of calls, or of one call that takes long.
+/// The time of one call: the median of some batches of calls; of calls that take long the shorter of two, since the first may pay
+/// for what later ones find ready.
 pub fn time_of<T>(mut call: impl FnMut() -> T) -> Duration {
     let once = timed(1, &mut call);
     if once > LONG {
-        return once;
+        return once.min(timed(1, &mut call));
     }
     let times = (BATCH.as_nanos() / once.as_nanos().max(1)).clamp(1, 100_000) as u32;
     let batches = (0..BATCHES).map(|_| timed(times, &mut call) / times).collect();
@@ -77,5 +78,16 @@ mod tests {
         let mut calls = 0;
         let time = time_of(|| calls += 1);
         assert!(calls > BATCHES && time < BATCH);
+    }
+
+    #[test]
+    fn of_two_long_calls_the_shorter_counts() {
+        let mut calls = 0;
+        let time = time_of(|| {
+            calls += 1;
+            let (start, length) = (clock::of_thread(), LONG * if calls == 1 { 4 } else { 2 });
+            while clock::of_thread() - start < length {}
+        });
+        assert!(calls == 2 && time >= LONG * 2 && time < LONG * 4);
     }
 }
