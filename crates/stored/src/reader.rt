@@ -2,14 +2,14 @@
 use crate::limits::MOST_BYTES;
 use crate::machine::State;
 use crate::machine::Turn;
-use crate::machine::due;
 use crate::machine::fresh;
 use crate::machine::is_ended;
-use crate::machine::take_turn;
+use crate::order::due;
 use crate::records::Record;
 use crate::records::byte_at;
 use crate::records::kind_of;
 use crate::records::record_at;
+use crate::taking::take_turn;
 ghost use mathlib.Core.Path.{_≡_};
 ghost use Rattle.stored.specs.Reading.{finishOf, takenOf, stepAt, reading};
 

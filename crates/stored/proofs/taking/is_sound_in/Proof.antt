@@ -1,8 +1,8 @@
--- `stored::machine::is_sound_in` meets its contract: the tests are those of `soundIn`.
+-- `stored::taking::is_sound_in` meets its contract: the tests are those of `soundIn`.
 use borrow.Author.Needs.{needs}
 use mathlib.Core.Path.{sym, _∙_}
-use Rattle.stored.proofs.machine.is_sound_in.Statement.{statement}
-use Rattle.stored.proofs.machine.is_sound_in.Tie as tie
+use Rattle.stored.proofs.taking.is_sound_in.Statement.{statement}
+use Rattle.stored.proofs.taking.is_sound_in.Tie as tie
 
 is-principals-requires : tie.Need-is-principals-requires
 is-principals-requires c κs = search needs

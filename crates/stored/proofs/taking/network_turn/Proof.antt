@@ -1,9 +1,9 @@
--- `stored::machine::network_turn` meets its contract: the tests come in the order of `networkTurn`.
+-- `stored::taking::network_turn` meets its contract: the tests come in the order of `networkTurn`.
 use borrow.Author.Needs.{needs}
 use mathlib.Core.Path.{sym, _∙_}
 use borrow.Author.Tests.{le-leb, lt-leb}
-use Rattle.stored.proofs.machine.network_turn.Statement.{statement}
-use Rattle.stored.proofs.machine.network_turn.Tie as tie
+use Rattle.stored.proofs.taking.network_turn.Statement.{statement}
+use Rattle.stored.proofs.taking.network_turn.Tie as tie
 
 returns : tie.Need-returns
 returns c = simp (le-leb _ _ (c .if1 .taken))

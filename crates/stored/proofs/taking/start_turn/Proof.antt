@@ -1,8 +1,8 @@
--- `stored::machine::start_turn` meets its contract: the test is that of `startTurn`.
+-- `stored::taking::start_turn` meets its contract: the test is that of `startTurn`.
 use borrow.Author.Needs.{needs}
 use borrow.Author.Tests.{lt-ltb, le-ltb}
-use Rattle.stored.proofs.machine.start_turn.Statement.{statement}
-use Rattle.stored.proofs.machine.start_turn.Tie as tie
+use Rattle.stored.proofs.taking.start_turn.Statement.{statement}
+use Rattle.stored.proofs.taking.start_turn.Tie as tie
 
 returns : tie.Need-returns
 returns c = simp (lt-ltb _ _ (c .if1 .taken))

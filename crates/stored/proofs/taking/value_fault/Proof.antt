@@ -1,9 +1,9 @@
--- `stored::machine::value_fault` meets its contract: the tests come in the order of `valueFault`.
+-- `stored::taking::value_fault` meets its contract: the tests come in the order of `valueFault`.
 use borrow.Author.Needs.{needs}
 use mathlib.Core.Path.{sym, _∙_}
 use borrow.Author.Tests.{eq-eqb, ne-eqb, lt-ltb, le-ltb}
-use Rattle.stored.proofs.machine.value_fault.Statement.{statement}
-use Rattle.stored.proofs.machine.value_fault.Tie as tie
+use Rattle.stored.proofs.taking.value_fault.Statement.{statement}
+use Rattle.stored.proofs.taking.value_fault.Tie as tie
 
 returns : tie.Need-returns
 returns c = simp (eq-eqb _ _ (c .if1 .taken))

@@ -1,7 +1,7 @@
--- `stored::machine::opened` meets its contract: the statements still to come are one less.
+-- `stored::taking::opened` meets its contract: the statements still to come are one less.
 use borrow.Author.Needs.{needs}
-use Rattle.stored.proofs.machine.opened.Statement.{statement}
-use Rattle.stored.proofs.machine.opened.Tie as tie
+use Rattle.stored.proofs.taking.opened.Statement.{statement}
+use Rattle.stored.proofs.taking.opened.Tie as tie
 
 one-less-requires : tie.Need-one-less-requires
 one-less-requires c κs = search needs

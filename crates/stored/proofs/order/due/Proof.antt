@@ -1,8 +1,8 @@
--- `stored::machine::due` meets its contract: the four tests come in the order of `dueOf`.
+-- `stored::order::due` meets its contract: the four tests come in the order of `dueOf`.
 use borrow.Author.Needs.{needs}
 use mathlib.Core.Path.{sym, _∙_}
-use Rattle.stored.proofs.machine.due.Statement.{statement}
-use Rattle.stored.proofs.machine.due.Tie as tie
+use Rattle.stored.proofs.order.due.Statement.{statement}
+use Rattle.stored.proofs.order.due.Tie as tie
 
 is-ended-requires : tie.Need-is-ended-requires
 is-ended-requires c κs = search needs

@@ -1,9 +1,9 @@
--- `stored::machine::condition_turn` meets its contract: the tests come in the order of `conditionTurn`, at the operator's row and the key's sort.
+-- `stored::taking::condition_turn` meets its contract: the tests come in the order of `conditionTurn`, at the operator's row and the key's sort.
 use borrow.Author.Needs.{needs}
 use mathlib.Core.Path.{sym, _∙_}
 use borrow.Author.Tests.{le-leb, lt-leb}
-use Rattle.stored.proofs.machine.condition_turn.Statement.{statement}
-use Rattle.stored.proofs.machine.condition_turn.Tie as tie
+use Rattle.stored.proofs.taking.condition_turn.Statement.{statement}
+use Rattle.stored.proofs.taking.condition_turn.Tie as tie
 
 returns : tie.Need-returns
 returns c = simp (le-leb _ _ (c .if1 .taken))

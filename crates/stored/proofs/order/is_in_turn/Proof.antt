@@ -1,7 +1,7 @@
--- `stored::machine::is_in_turn` meets its contract: the arms are those of `takesKind`.
+-- `stored::order::is_in_turn` meets its contract: the arms are those of `takesKind`.
 use borrow.Author.Needs.{needs}
-use Rattle.stored.proofs.machine.is_in_turn.Statement.{statement}
-use Rattle.stored.proofs.machine.is_in_turn.Tie as tie
+use Rattle.stored.proofs.order.is_in_turn.Statement.{statement}
+use Rattle.stored.proofs.order.is_in_turn.Tie as tie
 
 enum-told : tie.Need-enum-told
 enum-told c = search needs

@@ -1,7 +1,7 @@
--- `stored::machine::take_turn` meets its contract: the arms are those of `turnOf`.
+-- `stored::taking::take_turn` meets its contract: the arms are those of `turnOf`.
 use borrow.Author.Needs.{needs}
-use Rattle.stored.proofs.machine.take_turn.Statement.{statement}
-use Rattle.stored.proofs.machine.take_turn.Tie as tie
+use Rattle.stored.proofs.taking.take_turn.Statement.{statement}
+use Rattle.stored.proofs.taking.take_turn.Tie as tie
 
 enum-known-item : tie.Need-enum-known-item
 enum-known-item c = search needs

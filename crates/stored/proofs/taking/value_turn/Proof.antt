@@ -1,9 +1,9 @@
--- `stored::machine::value_turn` meets its contract: the tests come in the order of `valueTurn`.
+-- `stored::taking::value_turn` meets its contract: the tests come in the order of `valueTurn`.
 use borrow.Author.Needs.{needs}
 use mathlib.Core.Path.{sym, _∙_}
 use borrow.Author.Tests.{eq-eqb, ne-eqb, le-leb, lt-leb}
-use Rattle.stored.proofs.machine.value_turn.Statement.{statement}
-use Rattle.stored.proofs.machine.value_turn.Tie as tie
+use Rattle.stored.proofs.taking.value_turn.Statement.{statement}
+use Rattle.stored.proofs.taking.value_turn.Tie as tie
 
 returns : tie.Need-returns
 returns c = simp (le-leb _ _ (c .if1 .taken))

@@ -1,9 +1,9 @@
--- `stored::machine::column_turn` meets its contract: the test compares the two places that `columnTurn` compares.
+-- `stored::taking::column_turn` meets its contract: the test compares the two places that `columnTurn` compares.
 use borrow.Author.Needs.{needs}
 use mathlib.Core.Path.{sym, _∙_}
 use borrow.Author.Tests.{eq-eqb, ne-eqb}
-use Rattle.stored.proofs.machine.column_turn.Statement.{statement}
-use Rattle.stored.proofs.machine.column_turn.Tie as tie
+use Rattle.stored.proofs.taking.column_turn.Statement.{statement}
+use Rattle.stored.proofs.taking.column_turn.Tie as tie
 
 place-due-requires : tie.Need-place-due-requires
 place-due-requires c κs = search needs
