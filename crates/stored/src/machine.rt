@@ -1,5 +1,6 @@
 // The one state machine, for the reader and the writer: which record may come next, and what it leads to. It is split as document
-// 01's order is: what the kind alone decides (4 after the end, 3, 5, 4), and what the whole record decides (4, 6, 7, 8).
+// 01's order is: what the kind alone decides (module order: 4 after the end, 3, 5, 4), and what the whole record decides (module taking: 4,
+// 6, 7, 8).
 use crate::items::Item;
 use crate::items::Sort;
 use crate::order::due;
