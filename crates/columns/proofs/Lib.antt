@@ -11,4 +11,5 @@ pub mod PlanDecides
 pub mod PlanSteps
 pub mod PlanShort
 pub mod PlansLaid
+pub mod LastPositions
 pub mod PrintWords

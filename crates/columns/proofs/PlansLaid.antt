@@ -1,7 +1,7 @@
 -- The plans of two tables in the workspace: where they were laid down they can be read, there is room for them, and they stay where only
--- footprints are written.
+-- footprints are written, with what was worked out by them.
 use Prim.Native.Nat.{ℕ, suc, _+_, _≤_}
-use mathlib.Core.Path.{_≡_, refl, ap, _∙_}
+use mathlib.Core.Path.{_≡_, refl, sym, ap, ap₂, subst, _∙_}
 use mathlib.Core.Bool.{Bool, true, false}
 use mathlib.Core.List.{List, [], _∷_, _++_}
 use native.Mathlib.Omega.{arith}
@@ -11,8 +11,11 @@ use Rattle.stored.specs.Entries.{entriesOf, Accepted}
 use Rattle.judging.specs.Judging.{rowsOf}
 use Rattle.states.specs.Rows.{printsAt, codesAt}
 use Rattle.columns.specs.Both.{Narrow, FewNetworks}
-use Rattle.columns.specs.Plan.{planOf, PlansFit, HasPlans, LaysPlans}
+use Rattle.columns.specs.Values.{valuesIn, sumOf}
+use Rattle.columns.specs.Plan.{planOf, PlansFit, HasPlans, TextPlans, LaysPlans}
+use Rattle.columns.specs.Prints.{printsBy, printsOf, Prepared}
 use Rattle.columns.specs.declared.plan.Plans.{Plans}
+use Rattle.columns.specs.declared.prints.Prints.{Prints}
 use Rattle.states.proofs.Parts.{front-kept}
 use Rattle.columns.proofs.PlanShort.{plan-short, addresses-short}
 use Rattle.columns.proofs.Widths.{sum-both, networks-both}
@@ -108,4 +111,19 @@ plans-stay first second column strings from words after plans same h =
       other = ap (drop (plans .middle)) (front-kept after words printsAt (plans .end) same (omega arith)) ∙ h .other;
       order = order;
       within = within;
+    }
+
+-- what was worked out by the plans of a column of strings
+pub prepared : (first second : List ℕ) (column : ℕ) (words : List ℕ) (plans : Plans) (prints : Prints) → TextPlans first second column words plans
+    → prints ≡ printsOf words plans → Prepared first second column words prints
+prepared first second column words plans prints has is =
+    subst (λ (p : Prints). Prepared first second column words p) (sym is) (record { laid = has; found = refl })
+
+pub prepared-stays : (first second : List ℕ) (column : ℕ) (words after : List ℕ) (prints : Prints) → take printsAt after ≡ take printsAt words
+    → Prepared first second column words prints → Prepared first second column after prints
+prepared-stays first second column words after prints same h =
+    let laid = plans-stay first second column true (sumOf (valuesIn column (rowsOf first))) words after (prints .plans) same (h .laid) in
+    record {
+      laid = laid;
+      found = h .found ∙ ap₂ (printsBy (prints .plans)) (h .laid .own ∙ sym (laid .own)) (h .laid .other ∙ sym (laid .other));
     }

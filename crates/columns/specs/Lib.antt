@@ -5,5 +5,6 @@ pub mod Contents
 pub mod Lists
 pub mod Edges
 pub mod StateWalk
-pub mod Prints
 pub mod Plan
+pub mod LastPositions
+pub mod Prints
