@@ -9,8 +9,10 @@ use columns::limits::ADDRESSES;
 use columns::limits::NO_ADDRESS;
 use columns::plan::Plans;
 use columns::plan::lay_plans;
+use columns::prints::Prints;
 use columns::prints::absent_print;
 use columns::prints::address_print;
+use columns::prints::prints_of;
 use columns::prints::state_print;
 use judging::request::Present;
 use states::limits::FIRST_BYTE;
@@ -27,6 +29,7 @@ ghost use Rattle.comparing.specs.Columns.{Few};
 ghost use Rattle.comparing.specs.Compared.{valueBytes, Uncrowded};
 ghost use Rattle.states.specs.Rows.{printsAt};
 ghost use Rattle.columns.specs.Plan.{TextPlans, AddressPlans};
+ghost use Rattle.columns.specs.Prints.{Prepared};
 ghost use Rattle.columns.specs.Both.{BothRead, Narrow, FewNetworks};
 ghost use Rattle.comparing.specs.Survey.{HasStates};
 ghost use Rattle.comparing.specs.ShownValues.{FirstWith, StartsAt, FoundState, LaidValue, Lays, LaysString, ShowsAddress, RequestWith, LaysGap};
@@ -51,18 +54,18 @@ fn find_state(
     column: usize,
     from: usize,
     states: usize,
-    plans: Plans,
+    prints: Prints,
     size: u64,
     print: u64,
 ) -> usize
     requires { ⌜ BothRead (now first) (now second) size × HasStates (rowsOf (now first)) (rowsOf (now second)) column (now words) states
-        × (from ≤ states) × (printsAt ≤ length (now words)) × TextPlans (now first) (now second) column (now words) plans ⌝ }
+        × (from ≤ states) × (printsAt ≤ length (now words)) × Prepared (now first) (now second) column (now words) prints ⌝ }
     ensures { λ r. ⌜ FoundState (rowsOf (now (first .entry))) (rowsOf (now (second .entry))) column (now (words .entry)) from states print r ⌝ }
 {
     let mut i = from;
     while i < states {
         let row = row_at(words, i);
-        if state_print(words, row, first, second, column, plans, size) == print {
+        if state_print(words, row, first, second, column, prints, size) == print {
             return i;
         }
         i += 1;
@@ -89,6 +92,7 @@ fn show_state(
         × TextPlans (now first) (now second) column (now words) plans ⌝ }
     ensures { λ r. ⌜ LaysString (rowsOf (now (first .entry))) (rowsOf (now (second .entry))) column print (now (values .entry)) (now (values .exit)) r ⌝ }
 {
+    let prints = prints_of(words, plans);
     let i = find_state(
         words,
         first,
@@ -96,7 +100,7 @@ fn show_state(
         column,
         from,
         states,
-        plans,
+        prints,
         size,
         print,
     );

@@ -7,8 +7,10 @@ use columns::limits::ADDRESSES;
 use columns::limits::NO_ADDRESS;
 use columns::plan::Plans;
 use columns::plan::lay_plans;
+use columns::prints::Prints;
 use columns::prints::absent_print;
 use columns::prints::address_print;
+use columns::prints::prints_of;
 use columns::prints::state_print;
 use states::explore::explore;
 use states::limits::CODES;
@@ -29,6 +31,7 @@ ghost use Rattle.comparing.specs.Compared.{mostKinds};
 ghost use Rattle.columns.specs.Values.{valuesIn, sumOf};
 ghost use Rattle.states.specs.Rows.{printsAt};
 ghost use Rattle.columns.specs.Plan.{TextPlans, AddressPlans};
+ghost use Rattle.columns.specs.Prints.{Prepared};
 ghost use Rattle.columns.specs.Both.{BothRead, Narrow, FewNetworks};
 ghost use Rattle.comparing.specs.Survey.{HasRoom, printsBetween, Added, HasStates, RowsAdded, Gathered, FoundStates, SurveyedColumn, Surveyable, Surveyed};
 
@@ -91,19 +94,19 @@ fn gather_rows(
     start: usize,
     row: usize,
     states: usize,
-    plans: Plans,
+    prints: Prints,
     size: u64,
 ) -> usize
     requires { ⌜ BothRead (now first) (now second) size × HasStates (rowsOf (now first)) (rowsOf (now second)) column (now words) states
         × (row ≤ states) × (from ≤ start) × (printsAt + start + states < length (now words))
-        × TextPlans (now first) (now second) column (now words) plans ⌝ }
+        × Prepared (now first) (now second) column (now words) prints ⌝ }
     ensures { λ r. ⌜ RowsAdded (rowsOf (now (first .entry))) (rowsOf (now (second .entry))) column (now (words .entry)) (now (words .exit)) from start row (states - row) r ⌝ }
 {
     let mut to = start;
     let mut i = row;
     while i < states {
         let state = row_at(words, i);
-        let print = state_print(words, state, first, second, column, plans, size);
+        let print = state_print(words, state, first, second, column, prints, size);
         to = add_print(words, from, to, print);
         i += 1;
     }
@@ -128,10 +131,11 @@ fn gather_texts(
         × TextPlans (now first) (now second) column (now words) plans ⌝ }
     ensures { λ r. ⌜ Gathered (rowsOf (now (first .entry))) (rowsOf (now (second .entry))) column (now (words .entry)) (now (words .exit)) from r ⌝ }
 {
+    let prints = prints_of(words, plans);
     if column < 3 {
         if positions == 0 {
             let state = row_at(words, 0);
-            let print = state_print(words, state, first, second, column, plans, size);
+            let print = state_print(words, state, first, second, column, prints, size);
             return add_print(words, from, from, print);
         }
         return gather_rows(
@@ -143,7 +147,7 @@ fn gather_texts(
             from,
             1,
             states,
-            plans,
+            prints,
             size,
         );
     }
@@ -157,7 +161,7 @@ fn gather_texts(
         start,
         0,
         states,
-        plans,
+        prints,
         size,
     )
 }

@@ -16,12 +16,12 @@ use Rattle.comparing.proofs.show.find_state.Statement.{statement}
 use Rattle.comparing.proofs.show.find_state.Tie as tie
 
 abbrev Inv-loop : tie.InvT-loop
-Inv-loop words first second column from states plans size print i₀ i =
+Inv-loop words first second column from states prints size print i₀ i =
     (from ≤ i) × (i ≤ states)
     × ((j : ℕ) → from ≤ j → j < i → printOf (rowsOf first) (rowsOf second) column (text (stringOf words j)) ≡ print → ⊥)
 
 abbrev μ-loop : tie.MeasureT-loop
-μ-loop words first second column from states plans size print i₀ i = states - i
+μ-loop words first second column from states prints size print i₀ i = states - i
 
 loop-holds : tie.Need-loop-holds Inv-loop μ-loop
 loop-holds c = (omega arith, c .before .before .before .pre .2, λ j low high. absurd (omega arith))

@@ -8,25 +8,31 @@ use Rattle.judging.specs.Judging.{rowsOf}
 use lib.Seq.{sets}
 use Rattle.matching.specs.Codes.{codesOf}
 use Rattle.columns.specs.Values.{valuesIn}
+use Rattle.columns.proofs.PlansLaid.{prepared}
 use Rattle.comparing.proofs.FirstFound.{codes-few, starts-low, string-found, string-short}
 use Rattle.states.proofs.StringsOfRows.{keyed}
 use borrow.Author.Needs.{needs}
 use Rattle.comparing.proofs.show.show_state.Statement.{statement}
 use Rattle.comparing.proofs.show.show_state.Tie as tie
 
+prints-of-requires : tie.Need-prints-of-requires
+prints-of-requires c κs =
+    let h = c .before .before .before .before .pre in
+    (omega (arith, h .7 .order, h .7 .within, h .4), omega (arith, h .7 .within, h .4))
+
 find-state-requires : tie.Need-find-state-requires
 find-state-requires c κs =
-    let a = c .before .before .before .before .args in
-    let h = c .before .before .before .before .pre in
-    (h .0, h .1, starts-low (rowsOf (a .first .now)) (rowsOf (a .second .now)) (a .column) (codes-few (rowsOf (a .first .now)) (rowsOf (a .second .now)) (a .column) (h .1 .narrow)) (a .words .now) (a .states) (h .1 .explored) (a .from) (h .2) (h .3), h .4, h .7)
+    let a = c .before .before .before .before .before .args in
+    let h = c .before .before .before .before .before .pre in
+    (h .0, h .1, starts-low (rowsOf (a .first .now)) (rowsOf (a .second .now)) (a .column) (codes-few (rowsOf (a .first .now)) (rowsOf (a .second .now)) (a .column) (h .1 .narrow)) (a .words .now) (a .states) (h .1 .explored) (a .from) (h .2) (h .3), h .4, prepared (a .first .now) (a .second .now) (a .column) (a .words .now) (a .plans) (c .prints-of .result) (h .7) (c .prints-of .ensures))
 
 mul-lay-string : tie.Need-mul-lay-string
 mul-lay-string c = search needs
 
 lay-string-requires : tie.Need-lay-string-requires
 lay-string-requires c κs =
-    let a = c .before .before .before .before .before .before .args in
-    let h = c .before .before .before .before .before .before .pre in
+    let a = c .before .before .before .before .before .before .before .args in
+    let h = c .before .before .before .before .before .before .before .pre in
     let found =
     string-found (rowsOf (a .first .now)) (rowsOf (a .second .now)) (a .column) (codes-few (rowsOf (a .first .now)) (rowsOf (a .second .now)) (a .column) (h .1 .narrow)) (a .words .now) (a .states) (h .1 .explored) (a .from) (h .2) (h .3)
     (a .print) (h .6 .0) (h .6 .1) (c .before .find-state .result) (c .before .find-state .ensures) in (
@@ -44,8 +50,8 @@ same-length c = search needs
 
 returns : tie.Need-returns
 returns c =
-    let a = c .before .before .before .before .before .before .before .before .before .args in
-    let h = c .before .before .before .before .before .before .before .before .before .pre in
+    let a = c .before .before .before .before .before .before .before .before .before .before .args in
+    let h = c .before .before .before .before .before .before .before .before .before .before .pre in
     λ s w.
     let found =
     string-found (rowsOf (a .first .now)) (rowsOf (a .second .now)) (a .column) (codes-few (rowsOf (a .first .now)) (rowsOf (a .second .now)) (a .column) (h .1 .narrow)) (a .words .now) (a .states) (h .1 .explored) (a .from) (h .2) (h .3)
@@ -62,4 +68,4 @@ returns c =
 
 pub show-state-spec : {M : Type 1} → statement M
 show-state-spec =
-    tie.close (tie.spec find-state-requires mul-lay-string lay-string-requires same-length returns)
+    tie.close (tie.spec prints-of-requires find-state-requires mul-lay-string lay-string-requires same-length returns)

@@ -1,7 +1,7 @@
 -- The footprints of the rows before the one at hand were added: that is the invariant. A row's footprint is that of its string, which has the row.
 use Prim.Native.Nat.{ℕ, _+_, _-_, _≤_, _<_}
 use mathlib.Core.Path.{_≡_, refl, sym, ap, _∙_}
-use mathlib.Core.Bool.{Bool, true}
+use mathlib.Core.Bool.{Bool}
 use mathlib.Core.List.{List, _++_, map}
 use native.Mathlib.Omega.{arith}
 use lib.ListN.{length, take}
@@ -10,7 +10,7 @@ use Rattle.stored.specs.Choice.{pick}
 use Rattle.matching.specs.Codes.{codesOf}
 use Rattle.judging.specs.Requests.{absent, text}
 use Rattle.judging.specs.Judging.{rowsOf}
-use Rattle.columns.specs.Values.{valuesIn, sumOf}
+use Rattle.columns.specs.Values.{valuesIn}
 use Rattle.states.specs.Rows.{printsAt, mostStates, codesAt}
 use Rattle.comparing.specs.Product.{printOf}
 use Rattle.states.specs.Search.{stringOf}
@@ -18,14 +18,14 @@ use Rattle.comparing.specs.Adding.{addingRows}
 use Rattle.comparing.specs.Survey.{printsBetween, printAt}
 use Rattle.states.proofs.Parts.{front-kept}
 use Rattle.comparing.proofs.AddingPrints.{row-added}
-use Rattle.columns.proofs.PlansLaid.{plans-stay}
+use Rattle.columns.proofs.PlansLaid.{prepared-stays}
 use Rattle.comparing.proofs.StatesKept.{row-stays}
 use Rattle.comparing.proofs.Exploring.{string-reaches}
 use Rattle.comparing.proofs.survey.gather_rows.Statement.{statement}
 use Rattle.comparing.proofs.survey.gather_rows.Tie as tie
 
 abbrev Inv-loop : tie.InvT-loop
-Inv-loop words₀ first second column from start row states plans size to₀ i₀ words to i =
+Inv-loop words₀ first second column from start row states prints size to₀ i₀ words to i =
     (row ≤ i) × (i ≤ states) × (start ≤ to) × (to ≤ start + (i - row)) × (length words ≡ length words₀)
     × (take (printsAt + start) words ≡ take (printsAt + start) words₀)
     × ((found : List ℕ) → printsBetween words₀ from start ≡ map (printAt (rowsOf first) (rowsOf second) column words₀) found
@@ -33,7 +33,7 @@ Inv-loop words₀ first second column from start row states plans size to₀ i�
     ≡ map (printAt (rowsOf first) (rowsOf second) column words₀) (addingRows (printAt (rowsOf first) (rowsOf second) column words₀) found row (i - row)))
 
 abbrev μ-loop : tie.MeasureT-loop
-μ-loop words₀ first second column from start row states plans size to₀ i₀ words to i = states - i
+μ-loop words₀ first second column from start row states prints size to₀ i₀ words to i = states - i
 
 loop-holds : tie.Need-loop-holds Inv-loop μ-loop
 loop-holds c =
@@ -67,7 +67,7 @@ state-print-requires c κs =
     let few = h .1 .explored .few in
     let same = front-kept (l .words) (a .words .now) (printsAt + a .start) printsAt (l .inv .5) (omega arith) in (
       h .0,
-      plans-stay (a .first .now) (a .second .now) (a .column) true (sumOf (valuesIn (a .column) (rowsOf (a .first .now)))) (a .words .now) (l .words) (a .plans) same (h .5),
+      prepared-stays (a .first .now) (a .second .now) (a .column) (a .words .now) (l .words) (a .prints) same (h .5),
       omega (arith, h .4, l .inv .4),
       h .1 .narrow,
       (
