@@ -22,8 +22,8 @@ use Rattle.judging.specs.Meaning.{sense, elementReading, operatorReading}
 use Rattle.judging.specs.Walk.{freshWalk, closedOf, doneOf, beganOf, openedOf, mattersOf, seenOf, conditionOf, stepOf, runOf}
 use Rattle.columns.specs.declared.runs.Run.{Run}
 use Rattle.columns.specs.StateWalk.{stateStep, runState}
-use Rattle.columns.proofs.PlanNetworks.{network-address, network-bits}
 use Rattle.columns.specs.Plan.{statementWord, listWord, withWord, planFrom, planOf, inNetwork, freshRun, closesRun, doneRun, beganRun, openedRun, seenRun, runWord, runPlan}
+use Rattle.columns.proofs.PlanNetworks.{network-address, network-bits}
 
 -- a run as a walk within a list of the column
 abbrev listed : Run → Reading → Walk

@@ -10,13 +10,13 @@ use lib.Seq.{sets, sets-eq, length-sets, slice, take-at, drop-at, take-set-le, d
 use Rattle.stored.specs.Entries.{entriesOf, Accepted}
 use Rattle.judging.specs.Judging.{rowsOf}
 use Rattle.states.specs.Rows.{printsAt, codesAt}
+use Rattle.states.proofs.Parts.{front-kept}
 use Rattle.columns.specs.Both.{Narrow, FewNetworks}
 use Rattle.columns.specs.Values.{valuesIn, sumOf}
 use Rattle.columns.specs.Plan.{planOf, PlansFit, HasPlans, TextPlans, LaysPlans}
 use Rattle.columns.specs.Prints.{printsBy, printsOf, Prepared}
 use Rattle.columns.specs.declared.plan.Plans.{Plans}
 use Rattle.columns.specs.declared.prints.Prints.{Prints}
-use Rattle.states.proofs.Parts.{front-kept}
 use Rattle.columns.proofs.PlanShort.{plan-short, addresses-short}
 use Rattle.columns.proofs.Widths.{sum-both, networks-both}
 

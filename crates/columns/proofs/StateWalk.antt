@@ -25,9 +25,9 @@ use Rattle.judging.specs.Meaning.{elementReading, operatorReading, holds}
 use Rattle.judging.specs.Rows.{rowsWord}
 use Rattle.judging.specs.Walk.{freshWalk, doneOf, beganOf, mattersOf, seenOf, elementBegun, conditionBegun, stepOf, runOf}
 use Rattle.judging.proofs.Walking.{walk-means}
+use Rattle.states.specs.Rows.{mostStates}
 use Rattle.columns.specs.Values.{valuesIn}
 use Rattle.columns.specs.Contents.{texts, contentsFrom}
-use Rattle.states.specs.Rows.{mostStates}
 use Rattle.columns.specs.StateWalk.{stateStep, runState}
 use Rattle.columns.proofs.ColumnContents.{walk-contents, texts-in}
 use Rattle.columns.proofs.Widths.{values-append}

@@ -12,8 +12,8 @@ ghost use lib.Dec.{ltb};
 ghost use Rattle.stored.specs.Choice.{pick};
 ghost use Rattle.stored.specs.Entries.{entriesOf, Accepted};
 ghost use Rattle.judging.specs.Judging.{rowsOf};
-ghost use Rattle.columns.specs.Values.{networksIn};
 ghost use Rattle.states.specs.Rows.{printsAt};
+ghost use Rattle.columns.specs.Values.{networksIn};
 ghost use Rattle.columns.specs.Plan.{edgeOf, edgeIn, AddressPlans};
 ghost use Rattle.columns.specs.Edges.{above, nextEdge};
 

@@ -15,11 +15,11 @@ use Rattle.matching.specs.State.{stateOf}
 use Rattle.matching.specs.Rows.{stepRow, rowOf}
 use Rattle.matching.proofs.States.{row-empty, row-step}
 use Rattle.matching.proofs.Columns.{same-state, same-row}
+use Rattle.states.specs.Rows.{mostStates, rowAt}
+use Rattle.states.specs.Search.{Partial, Explored, Exceeded, stringOf}
 use Rattle.comparing.specs.Order.{In}
 use Rattle.comparing.specs.Counts.{Apart}
 use Rattle.comparing.specs.Columns.{IsString, States, Few, TooMany}
-use Rattle.states.specs.Rows.{mostStates, rowAt}
-use Rattle.states.specs.Search.{Partial, Explored, Exceeded, stringOf}
 use Rattle.comparing.proofs.Ranks.{ranged, in-range, ranged-append}
 use Rattle.comparing.proofs.Exploring.{reached, string-reaches}
 

@@ -19,8 +19,8 @@ use Rattle.matching.specs.Matches.{matches, valueMatches, prefixMatches}
 use Rattle.matching.specs.State.{listOf, stateOf}
 use Rattle.judging.specs.Requests.{text}
 use Rattle.judging.specs.Meaning.{listedMatches, sense, elementReading, operatorReading, conditionColumn, elementHolds, conditionHolds, elementIn, conditionIn, holds}
-use Rattle.comparing.specs.Gaps.{footprint}
 use Rattle.columns.specs.Values.{readAs, elementValues, conditionValues, valuesIn}
+use Rattle.comparing.specs.Gaps.{footprint}
 
 -- joined lists that are equal, where both begin with as many places
 parts : (n : ℕ) (f g : ℕ → Bool) (a b : List Bool) → listOf n f ++ a ≡ listOf n g ++ b → ((j : ℕ) → j < n → f j ≡ g j) × (a ≡ b)

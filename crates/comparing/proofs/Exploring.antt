@@ -15,9 +15,9 @@ use Rattle.stored.specs.Values.{inRange}
 use Rattle.matching.specs.Rows.{stepRow, rowOf, forward, rowBackward}
 use Rattle.matching.proofs.States.{backward, row-empty, row-step}
 use Rattle.judging.specs.Requests.{text}
-use Rattle.comparing.specs.Order.{Before}
 use Rattle.states.specs.Rows.{rowAt, keyAt, IsByte}
 use Rattle.states.specs.Search.{Partial, Explored, chain, stringOf}
+use Rattle.comparing.specs.Order.{Before}
 use Rattle.comparing.proofs.Ranks.{Ranged, ranged, in-range, ranged-forward, ranged-backward, length-forward, rank, before-rank, rank-before}
 
 -- the row of a string that is given last byte first

@@ -11,10 +11,10 @@ use Rattle.stored.specs.Values.{inRange}
 use Rattle.matching.specs.declared.reading.Reading.{Reading}
 use Rattle.matching.specs.State.{stateOf}
 use Rattle.judging.specs.Requests.{Value, absent, text, number}
+use Rattle.columns.specs.Values.{valuesIn, sumOf}
 use Rattle.comparing.specs.Order.{Before, Smaller, In}
 use Rattle.comparing.specs.Requests.{AdmitsNeeded}
 use Rattle.comparing.specs.Gaps.{Alike, FirstOf}
-use Rattle.columns.specs.Values.{valuesIn, sumOf}
 use Rattle.comparing.specs.Product.{Firsts}
 use Rattle.comparing.proofs.Admitting.{needed, is-needed}
 use Rattle.comparing.proofs.Deciding.{state-decides}

@@ -14,13 +14,13 @@ use Rattle.stored.specs.Reading.{reading}
 use Rattle.stored.specs.Tables.{Statement}
 use Rattle.stored.specs.declared.reader.ReadAnswer.{ReadAnswer}
 use Rattle.stored.specs.declared.reader.ReadAnswer.the-variants as A
-use Rattle.judging.specs.Requests.{Value, columns}
-use Rattle.judging.specs.Judging.{rowsOf}
 use Rattle.matching.specs.declared.reading.Reading.{Reading}
 use Rattle.matching.specs.State.{stateOf}
+use Rattle.judging.specs.Requests.{Value, columns}
+use Rattle.judging.specs.Judging.{rowsOf}
+use Rattle.columns.specs.Values.{valuesIn}
 use Rattle.comparing.specs.Requests.{Admitted}
 use Rattle.comparing.specs.Gaps.{footprint}
-use Rattle.columns.specs.Values.{valuesIn}
 use Rattle.comparing.specs.Columns.{IsString, Few, TooMany}
 use Rattle.comparing.specs.Compared.{workspaceWords, valueBytes, mostKinds, firstWide, Crowded, Uncrowded, CountsFrom, product, FromKinds, FromStates, FromTables, Answered, IsCount, Compared, firstLong, shapeOf, laid, IsShown, IsAnswer, keeps, Shown}
 use Rattle.comparing.specs.declared.answers.Counting.{Counting}

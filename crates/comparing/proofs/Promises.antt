@@ -20,13 +20,13 @@ use Rattle.judging.specs.Requests.{Value, text, columns}
 use Rattle.judging.specs.Meaning.{isAllowed}
 use Rattle.judging.specs.Judging.{rowsOf, judgement}
 use Rattle.judging.specs.declared.judge.Judgement.the-variants as J
+use Rattle.states.specs.Rows.{mostStates, rowAt}
+use Rattle.states.specs.Search.{Explored, stringOf}
+use Rattle.columns.specs.Values.{valuesIn}
 use Rattle.comparing.specs.Order.{Before, Earlier, In}
 use Rattle.comparing.specs.Requests.{IsRequest}
 use Rattle.comparing.specs.Gaps.{footprint, AlikeFrom, Gaps, Counted, IsGap}
-use Rattle.columns.specs.Values.{valuesIn}
 use Rattle.comparing.specs.Columns.{States}
-use Rattle.states.specs.Rows.{mostStates, rowAt}
-use Rattle.states.specs.Search.{Explored, stringOf}
 use Rattle.comparing.specs.Compared.{workspaceWords, mostKinds, firstWide, Crowded, Uncrowded, CountsFrom, product, Compared, Shown}
 use Rattle.comparing.specs.declared.answers.Counting.{Counting}
 use Rattle.comparing.specs.declared.answers.Counting.the-variants as C

@@ -13,8 +13,8 @@ use Rattle.stored.specs.Values.{byteInRange, inRange}
 use Rattle.stored.proofs.Choosing.{both-left, both-right}
 use Rattle.matching.specs.Rows.{forward}
 use Rattle.judging.specs.Requests.{text}
-use Rattle.comparing.specs.Order.{Smaller, Before}
 use Rattle.states.specs.Rows.{IsByte}
+use Rattle.comparing.specs.Order.{Smaller, Before}
 use Rattle.comparing.proofs.Order.{Compares, before-total}
 
 -- every byte of a string is one of 21 to 7E hex

@@ -10,10 +10,10 @@ use Rattle.stored.specs.Values.{inRange}
 use Rattle.stored.specs.Tables.{Statement}
 use Rattle.matching.specs.declared.reading.Reading.{Reading}
 use Rattle.matching.specs.State.{stateOf}
+use Rattle.columns.specs.Values.{valuesIn, sumOf, networksIn}
 use Rattle.comparing.specs.Requests.{Admitted}
 use Rattle.comparing.specs.Gaps.{footprint}
 use Rattle.comparing.specs.Counts.{Different, MoreThan}
-use Rattle.columns.specs.Values.{valuesIn, sumOf, networksIn}
 
 -- 10: a sum above 512 in columns 0 to 6, over 128 networks in column 7
 abbrev pub isWide : List Statement → ℕ → Bool

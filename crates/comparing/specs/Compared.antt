@@ -14,8 +14,8 @@ use Rattle.stored.specs.declared.reader.ReadAnswer.{ReadAnswer}
 use Rattle.stored.specs.declared.reader.ReadAnswer.the-variants as A
 use Rattle.judging.specs.Requests.{Value, absent, text, number, isPresent, columns, columnOf}
 use Rattle.judging.specs.Judging.{rowsOf}
-use Rattle.comparing.specs.Gaps.{Counted, IsGap}
 use Rattle.columns.specs.Values.{valuesIn}
+use Rattle.comparing.specs.Gaps.{Counted, IsGap}
 use Rattle.comparing.specs.Columns.{isWide, Few, TooMany, Footprints}
 use Rattle.comparing.specs.declared.answers.Counting.{Counting}
 use Rattle.comparing.specs.declared.answers.Counting.the-variants as C

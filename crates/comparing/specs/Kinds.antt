@@ -9,9 +9,9 @@ use lib.Dec.{eqb, ltb}
 use lib.ListN.{length, getD, take, drop}
 use Rattle.stored.specs.Choice.{pick}
 use Rattle.judging.specs.Rows.{bitOf}
+use Rattle.states.specs.Rows.{printsAt}
 use Rattle.comparing.specs.declared.kinds.Sides.{Sides}
 use Rattle.comparing.specs.declared.kinds.Step.{Step}
-use Rattle.states.specs.Rows.{printsAt}
 
 -- all rows that apply allow, and there are some
 abbrev pub allowedRows : ℕ → ℕ → Bool

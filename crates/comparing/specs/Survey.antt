@@ -17,14 +17,14 @@ use Rattle.comparing.specs.Compared.{Crowded, Uncrowded, product, mostKi
 pub use Rattle.comparing.specs.Kinds.{printsBetween}
 use Rattle.states.specs.Rows.{printsAt, mostStates}
 use Rattle.comparing.specs.Kinds.{printsIn, Bounded}
-use Rattle.comparing.specs.Product.{Firsts, AllFirsts, printOf, printsFrom}
 use Rattle.states.specs.Search.{Explored, Exceeded}
+use Rattle.columns.specs.Both.{Narrow, FewNetworks}
+use Rattle.comparing.specs.Product.{Firsts, AllFirsts, printOf, printsFrom}
 use Rattle.comparing.specs.Adding.{textAt, addingRows}
 use Rattle.comparing.specs.declared.survey.Column.{Column}
 use Rattle.comparing.specs.declared.survey.Column.the-variants as C
 use Rattle.comparing.specs.declared.survey.States.{States}
 use Rattle.comparing.specs.declared.survey.AllColumns.{AllColumns}
-use Rattle.columns.specs.Both.{Narrow, FewNetworks}
 
 -- the workspace has room for the footprints of one column more
 pub record HasRoom (words : List ℕ) (from : ℕ) : Type 0 where

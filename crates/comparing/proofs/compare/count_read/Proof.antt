@@ -11,8 +11,8 @@ use Rattle.comparing.specs.Compared.{firstWide, product, mostKinds, IsCo
 use Rattle.comparing.specs.Kinds.{countOf, printsIn}
 use Rattle.comparing.specs.Survey.{Listed}
 use Rattle.comparing.specs.declared.answers.Counting.the-variants as C
-use Rattle.comparing.proofs.NotWide.{not-wide}
-use Rattle.comparing.proofs.Answering.{answer-wide, answer-crowded, answer-over, answer-yes, survey-crowded, survey-listed, within-kinds, counts-gaps}
+use Rattle.comparing.proofs.compare.NotWide.{not-wide}
+use Rattle.comparing.proofs.compare.Answering.{answer-wide, answer-crowded, answer-over, answer-yes, survey-crowded, survey-listed, within-kinds, counts-gaps}
 use borrow.Author.Needs.{needs}
 use Rattle.comparing.proofs.compare.count_read.Statement.{statement}
 use Rattle.comparing.proofs.compare.count_read.Tie as tie

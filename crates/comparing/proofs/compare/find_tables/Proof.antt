@@ -2,8 +2,8 @@
 use mathlib.Core.Path.{refl, sym, _∙_}
 use Rattle.judging.specs.Requests.{number}
 use Rattle.comparing.specs.Compared.{IsAnswer, keeps}
-use Rattle.comparing.proofs.BothRead.{both-read}
-use Rattle.comparing.proofs.Answering.{answer-first, answer-second, answer-both}
+use Rattle.comparing.proofs.compare.BothRead.{both-read}
+use Rattle.comparing.proofs.compare.Answering.{answer-first, answer-second, answer-both}
 use borrow.Author.Needs.{needs}
 use Rattle.comparing.proofs.compare.find_tables.Statement.{statement}
 use Rattle.comparing.proofs.compare.find_tables.Tie as tie

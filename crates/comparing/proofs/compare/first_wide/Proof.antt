@@ -6,7 +6,7 @@ use native.Mathlib.Omega.{arith}
 use Rattle.judging.specs.Judging.{rowsOf}
 use Rattle.comparing.specs.Columns.{isWide}
 use Rattle.comparing.specs.Compared.{lowest, firstWide}
-use Rattle.comparing.proofs.Narrowing.{lowest-here, lowest-on}
+use Rattle.comparing.proofs.compare.Narrowing.{lowest-here, lowest-on}
 use borrow.Author.Needs.{needs}
 use Rattle.comparing.proofs.compare.first_wide.Statement.{statement}
 use Rattle.comparing.proofs.compare.first_wide.Tie as tie

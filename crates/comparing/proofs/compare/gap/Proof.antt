@@ -5,7 +5,7 @@ use lib.ListN.{length, replicate}
 use mathlib.Core.Bool.{_||_}
 use lib.Dec.{ltb}
 use Rattle.comparing.specs.Compared.{IsAnswer, keeps, workspaceWords, valueBytes}
-use Rattle.comparing.proofs.Answering.{answer-short, answer-long, left-short, left-long, short-first, short-second, long-both}
+use Rattle.comparing.proofs.compare.Answering.{answer-short, answer-long, left-short, left-long, short-first, short-second, long-both}
 use borrow.Author.Needs.{needs}
 use Rattle.comparing.proofs.compare.gap.Statement.{statement}
 use Rattle.comparing.proofs.compare.gap.Tie as tie

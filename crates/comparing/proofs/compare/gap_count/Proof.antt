@@ -6,7 +6,7 @@ use lib.Dec.{ltb}
 use borrow.Author.Tests.{lt-ltb, le-ltb}
 use Rattle.comparing.specs.Compared.{IsCount, workspaceWords}
 use Rattle.comparing.specs.declared.answers.Counting.the-variants as C
-use Rattle.comparing.proofs.Answering.{answer-short, answer-long, left-short, left-long}
+use Rattle.comparing.proofs.compare.Answering.{answer-short, answer-long, left-short, left-long}
 use borrow.Author.Needs.{needs}
 use Rattle.comparing.proofs.compare.gap_count.Statement.{statement}
 use Rattle.comparing.proofs.compare.gap_count.Tie as tie

@@ -1,5 +1,5 @@
 -- The sum is not formed, since it might not fit.
-use Rattle.comparing.proofs.Narrowing.{over-first, over-rest}
+use Rattle.comparing.proofs.compare.Narrowing.{over-first, over-rest}
 use Rattle.comparing.proofs.compare.is_over.Statement.{statement}
 use Rattle.comparing.proofs.compare.is_over.Tie as tie
 

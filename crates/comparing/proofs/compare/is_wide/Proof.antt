@@ -3,7 +3,7 @@ use Prim.Native.Nat.{ℕ, _+_}
 use mathlib.Core.Path.{_∙_, ap₂}
 use lib.Dec.{ltb}
 use Rattle.judging.specs.Judging.{rowsOf}
-use Rattle.comparing.proofs.Narrowing.{wide-strings, wide-networks}
+use Rattle.comparing.proofs.compare.Narrowing.{wide-strings, wide-networks}
 use borrow.Author.Needs.{needs}
 use Rattle.comparing.proofs.compare.is_wide.Statement.{statement}
 use Rattle.comparing.proofs.compare.is_wide.Tie as tie

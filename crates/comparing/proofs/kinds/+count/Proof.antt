@@ -10,9 +10,9 @@ use lib.ListN.{length, getD}
 use Rattle.judging.specs.Rows.{bitOf}
 use Rattle.states.specs.Rows.{printsAt}
 use Rattle.comparing.specs.Kinds.{isGapRows, countOf, printsIn}
-use Rattle.comparing.proofs.GapRows.{count-most}
-use Rattle.comparing.proofs.Settling.{settled-once, kinds-ahead}
-use Rattle.comparing.proofs.KindsInWords.{up, next-within, fewer-kinds, gapsBehind, gapsLeft, gaps-start, gaps-on, gaps-done}
+use Rattle.comparing.proofs.kinds.GapRows.{count-most}
+use Rattle.comparing.proofs.kinds.Settling.{settled-once, kinds-ahead}
+use Rattle.comparing.proofs.kinds.KindsInWords.{up, next-within, fewer-kinds, gapsBehind, gapsLeft, gaps-start, gaps-on, gaps-done}
 use borrow.Fn.Kinds.{In}
 use borrow.Fn.PlainCycle.{Measures, is, falls, and}
 use Rattle.comparing.proofs.kinds.count.Reads as count

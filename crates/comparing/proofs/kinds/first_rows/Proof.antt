@@ -3,7 +3,7 @@ use Prim.Native.Nat.{ℕ, _%_}
 use mathlib.Core.Path.{ap}
 use native.Mathlib.Omega.{arith}
 use lib.Pow.{pow-pos}
-use Rattle.comparing.proofs.KindsInWords.{unit-exact}
+use Rattle.comparing.proofs.kinds.KindsInWords.{unit-exact}
 use borrow.Author.Needs.{needs}
 use Rattle.comparing.proofs.kinds.first_rows.Statement.{statement}
 use Rattle.comparing.proofs.kinds.first_rows.Tie as tie

@@ -7,8 +7,8 @@ use native.Mathlib.Omega.{arith}
 use lib.ListN.{length}
 use Rattle.comparing.specs.Compared.{product, mostKinds}
 use Rattle.comparing.specs.Kinds.{printsAlong, printsIn}
-use Rattle.comparing.proofs.KindsInWords.{up, fewer-kinds, along-on}
-use Rattle.comparing.proofs.GapPrints.{Laid, laid-on, laid-done, along-end, along-empty}
+use Rattle.comparing.proofs.kinds.KindsInWords.{up, fewer-kinds, along-on}
+use Rattle.comparing.proofs.kinds.GapPrints.{Laid, laid-on, laid-done, along-end, along-empty}
 use borrow.Author.Needs.{needs}
 use Rattle.comparing.proofs.kinds.gap_prints.Statement.{statement}
 use Rattle.comparing.proofs.kinds.gap_prints.Tie as tie

@@ -3,7 +3,7 @@ use Prim.Native.Nat.{ℕ, suc, _+_, _-_, _*_, _%_, _^_, _≤_, _<_}
 use mathlib.Core.Path.{_≡_, refl, sym, ap, _∙_}
 use native.Mathlib.Omega.{arith}
 use lib.ListN.{getD}
-use Rattle.comparing.proofs.Settling.{nineOf, RightFrom, right-last, right-more, kindsOn, kinds-step, kinds-low}
+use Rattle.comparing.proofs.kinds.Settling.{nineOf, RightFrom, right-last, right-more, kindsOn, kinds-step, kinds-low}
 use borrow.Author.Needs.{needs}
 use Rattle.comparing.proofs.kinds.kinds_of.Statement.{statement}
 use Rattle.comparing.proofs.kinds.kinds_of.Tie as tie

@@ -1,7 +1,7 @@
 -- The remainder of the count before the product changes no remainder of the product, and keeps it within a word.
 use Prim.Native.Nat.{_^_}
 use native.Mathlib.Omega.{arith}
-use Rattle.comparing.proofs.Settling.{remainder-times, product-fits}
+use Rattle.comparing.proofs.kinds.Settling.{remainder-times, product-fits}
 use Rattle.comparing.proofs.kinds.kinds_with.Statement.{statement}
 use Rattle.comparing.proofs.kinds.kinds_with.Tie as tie
 

@@ -4,8 +4,8 @@ use mathlib.Core.Path.{_≡_, refl, sym, ap, _∙_}
 use native.Mathlib.Omega.{arith}
 use lib.ListN.{getD}
 use Rattle.comparing.specs.Kinds.{printsBetween, printsIn, meetAll, meetOf}
-use Rattle.comparing.proofs.Settling.{nineOf, RightFrom, right-last, right-more, meets-step}
-use Rattle.comparing.proofs.KindsInWords.{up, next-within}
+use Rattle.comparing.proofs.kinds.Settling.{nineOf, RightFrom, right-last, right-more, meets-step}
+use Rattle.comparing.proofs.kinds.KindsInWords.{up, next-within}
 use borrow.Author.Needs.{needs}
 use Rattle.comparing.proofs.kinds.meets_of.Statement.{statement}
 use Rattle.comparing.proofs.kinds.meets_of.Tie as tie

@@ -4,7 +4,7 @@ use mathlib.Core.Path.{sym, _∙_, ap}
 use mathlib.Core.Bool.{Bool}
 use native.Mathlib.Nat.{mul-one}
 use Rattle.judging.specs.Rows.{bitOf}
-use Rattle.comparing.proofs.Settling.{none-of}
+use Rattle.comparing.proofs.kinds.Settling.{none-of}
 use borrow.Author.Needs.{needs}
 use Rattle.comparing.proofs.kinds.settled.Statement.{statement}
 use Rattle.comparing.proofs.kinds.settled.Tie as tie

@@ -6,7 +6,7 @@ use native.Mathlib.Omega.{arith}
 use lib.ListN.{length}
 use Rattle.states.specs.Rows.{printsAt}
 use Rattle.comparing.specs.Kinds.{stepOf, printsIn}
-use Rattle.comparing.proofs.KindsInWords.{up, next-within, fewer-kinds, stepLeft, step-start, step-here, step-on, step-done}
+use Rattle.comparing.proofs.kinds.KindsInWords.{up, next-within, fewer-kinds, stepLeft, step-start, step-here, step-on, step-done}
 use borrow.Author.Needs.{needs}
 use Rattle.comparing.proofs.kinds.step_to.Statement.{statement}
 use Rattle.comparing.proofs.kinds.step_to.Tie as tie

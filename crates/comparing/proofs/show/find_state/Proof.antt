@@ -3,14 +3,14 @@ use Prim.Native.Nat.{ℕ, _-_, _≤_, _<_}
 use mathlib.Core.Path.{_≡_, sym, _∙_}
 use mathlib.Core.List.{_++_}
 use native.Mathlib.Omega.{arith}
+use Rattle.matching.specs.Codes.{codesOf}
 use Rattle.judging.specs.Requests.{text}
 use Rattle.judging.specs.Judging.{rowsOf}
-use Rattle.matching.specs.Codes.{codesOf}
+use Rattle.states.specs.Search.{stringOf}
 use Rattle.columns.specs.Values.{valuesIn}
 use Rattle.comparing.specs.Product.{printOf}
-use Rattle.states.specs.Search.{stringOf}
 use Rattle.comparing.proofs.Exploring.{string-reaches}
-use Rattle.comparing.proofs.FirstFound.{none-next}
+use Rattle.comparing.proofs.show.FirstFound.{none-next}
 use borrow.Author.Needs.{needs}
 use Rattle.comparing.proofs.show.find_state.Statement.{statement}
 use Rattle.comparing.proofs.show.find_state.Tie as tie

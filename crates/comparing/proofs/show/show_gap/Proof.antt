@@ -5,10 +5,10 @@ use native.Mathlib.Omega.{arith}
 use lib.ListN.{getD}
 use Rattle.judging.specs.Requests.{columnOf}
 use Rattle.judging.specs.Judging.{rowsOf}
-use Rattle.comparing.specs.ShownValues.{FirstWith}
-use Rattle.comparing.proofs.AlongPath.{first-at}
-use Rattle.comparing.proofs.LaidValues.{gap-shown}
 use Rattle.columns.proofs.PlansLaid.{addresses-fit}
+use Rattle.comparing.specs.ShownValues.{FirstWith}
+use Rattle.comparing.proofs.show.AlongPath.{first-at}
+use Rattle.comparing.proofs.show.LaidValues.{gap-shown}
 use borrow.Author.Needs.{needs}
 use Rattle.comparing.proofs.show.show_gap.Statement.{statement}
 use Rattle.comparing.proofs.show.show_gap.Tie as tie

@@ -7,10 +7,10 @@ use lib.ListN.{length}
 use Rattle.judging.specs.Judging.{rowsOf}
 use lib.Seq.{sets}
 use Rattle.matching.specs.Codes.{codesOf}
+use Rattle.states.proofs.StringsOfRows.{keyed}
 use Rattle.columns.specs.Values.{valuesIn}
 use Rattle.columns.proofs.PlansLaid.{prepared}
-use Rattle.comparing.proofs.FirstFound.{codes-few, starts-low, string-found, string-short}
-use Rattle.states.proofs.StringsOfRows.{keyed}
+use Rattle.comparing.proofs.show.FirstFound.{codes-few, starts-low, string-found, string-short}
 use borrow.Author.Needs.{needs}
 use Rattle.comparing.proofs.show.show_state.Statement.{statement}
 use Rattle.comparing.proofs.show.show_state.Tie as tie

@@ -5,7 +5,7 @@ use native.Mathlib.Omega.{arith}
 use lib.ListN.{length-set}
 use lib.Seq.{take-set-le}
 use Rattle.states.specs.Rows.{printsAt}
-use Rattle.comparing.proofs.AddingPrints.{prints-more}
+use Rattle.comparing.proofs.survey.AddingPrints.{prints-more}
 use borrow.Author.Needs.{needs}
 use Rattle.comparing.proofs.survey.add_print.Statement.{statement}
 use Rattle.comparing.proofs.survey.add_print.Tie as tie

@@ -7,12 +7,12 @@ use mathlib.Core.List.{_++_}
 use native.Mathlib.Omega.{arith}
 use lib.ListN.{length, take}
 use Rattle.judging.specs.Judging.{rowsOf}
-use Rattle.columns.specs.Values.{networksIn}
 use Rattle.states.specs.Rows.{printsAt}
 use Rattle.states.proofs.Parts.{front-kept}
-use Rattle.comparing.proofs.AddressesUpto.{AddressesUpto, upto-room, upto-begins, upto-on, upto-ends}
+use Rattle.columns.specs.Values.{networksIn}
 use Rattle.columns.proofs.Edges.{edge-high, next-edge-above}
 use Rattle.columns.proofs.PlansLaid.{plans-stay}
+use Rattle.comparing.proofs.survey.AddressesUpto.{AddressesUpto, upto-room, upto-begins, upto-on, upto-ends}
 use Rattle.comparing.proofs.survey.gather_addresses.Statement.{statement}
 use Rattle.comparing.proofs.survey.gather_addresses.Tie as tie
 

@@ -10,16 +10,16 @@ use Rattle.stored.specs.Choice.{pick}
 use Rattle.matching.specs.Codes.{codesOf}
 use Rattle.judging.specs.Requests.{absent, text}
 use Rattle.judging.specs.Judging.{rowsOf}
-use Rattle.columns.specs.Values.{valuesIn}
 use Rattle.states.specs.Rows.{printsAt, mostStates, codesAt}
-use Rattle.comparing.specs.Product.{printOf}
 use Rattle.states.specs.Search.{stringOf}
+use Rattle.states.proofs.Parts.{front-kept}
+use Rattle.columns.specs.Values.{valuesIn}
+use Rattle.columns.proofs.PlansLaid.{prepared-stays}
+use Rattle.comparing.specs.Product.{printOf}
 use Rattle.comparing.specs.Adding.{addingRows}
 use Rattle.comparing.specs.Survey.{printsBetween, printAt}
-use Rattle.states.proofs.Parts.{front-kept}
-use Rattle.comparing.proofs.AddingPrints.{row-added}
-use Rattle.columns.proofs.PlansLaid.{prepared-stays}
-use Rattle.comparing.proofs.StatesKept.{row-stays}
+use Rattle.comparing.proofs.survey.AddingPrints.{row-added}
+use Rattle.comparing.proofs.survey.StatesKept.{row-stays}
 use Rattle.comparing.proofs.Exploring.{string-reaches}
 use Rattle.comparing.proofs.survey.gather_rows.Statement.{statement}
 use Rattle.comparing.proofs.survey.gather_rows.Tie as tie

@@ -5,13 +5,13 @@ use mathlib.Core.List.{_++_}
 use native.Mathlib.Omega.{arith}
 use Rattle.matching.specs.Codes.{codesOf}
 use Rattle.judging.specs.Judging.{rowsOf}
-use Rattle.columns.specs.Values.{valuesIn}
 use Rattle.states.specs.Rows.{printsAt}
 use Rattle.states.specs.Search.{stringOf}
 use Rattle.states.proofs.Parts.{front-kept}
-use Rattle.comparing.proofs.Exploring.{string-reaches}
+use Rattle.columns.specs.Values.{valuesIn}
 use Rattle.columns.proofs.PlansLaid.{prepared, prepared-stays}
-use Rattle.comparing.proofs.TextsGathered.{gathered-none, gathered-needed, gathered-optional, states-stay}
+use Rattle.comparing.proofs.Exploring.{string-reaches}
+use Rattle.comparing.proofs.survey.TextsGathered.{gathered-none, gathered-needed, gathered-optional, states-stay}
 use Rattle.comparing.proofs.survey.gather_texts.Statement.{statement}
 use Rattle.comparing.proofs.survey.gather_texts.Tie as tie
 

@@ -8,9 +8,9 @@ use lib.ListN.{length}
 use Rattle.judging.specs.Judging.{rowsOf}
 use Rattle.states.specs.Rows.{mostStates}
 use Rattle.states.specs.Search.{Explored, Exceeded}
-use Rattle.columns.proofs.Widths.{sum-both}
-use Rattle.comparing.proofs.LaidCodes.{withCodes, with-length, part-length, codes-both-laid, prints-stay}
 use Rattle.states.proofs.TakenRows.{codes-stay, searchable-laid}
+use Rattle.columns.proofs.Widths.{sum-both}
+use Rattle.comparing.proofs.survey.LaidCodes.{withCodes, with-length, part-length, codes-both-laid, prints-stay}
 use borrow.Author.Needs.{needs}
 use Rattle.comparing.proofs.survey.states_of.Statement.{statement}
 use Rattle.comparing.proofs.survey.states_of.Tie as tie

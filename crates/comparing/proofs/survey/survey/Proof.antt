@@ -7,7 +7,7 @@ use lib.ListN.{length, set}
 use Rattle.judging.specs.Judging.{rowsOf}
 use Rattle.comparing.specs.Survey.{SurveyedColumn}
 use Rattle.comparing.specs.declared.survey.Column.{Column}
-use Rattle.comparing.proofs.ColumnsSurveyed.{ColumnsUpto, columns-begin, columns-on, columns-end}
+use Rattle.comparing.proofs.survey.ColumnsSurveyed.{ColumnsUpto, columns-begin, columns-on, columns-end}
 use borrow.Author.Needs.{needs}
 use Rattle.comparing.proofs.survey.survey.Statement.{statement}
 use Rattle.comparing.proofs.survey.survey.Tie as tie

@@ -12,16 +12,16 @@ use borrow.Author.Tests.{ne-eqb, ltb-true, ltb-false}
 use Rattle.stored.specs.Choice.{pick}
 use Rattle.stored.specs.Tables.{Statement}
 use Rattle.judging.specs.Requests.{Value, absent, text, number}
+use Rattle.columns.specs.Values.{networksIn}
+use Rattle.columns.specs.Edges.{nextEdge}
+use Rattle.columns.proofs.Edges.{edge-high, next-edge-above}
 use Rattle.comparing.specs.Order.{Before, In}
 use Rattle.comparing.specs.Requests.{Admitted}
 use Rattle.comparing.specs.Gaps.{Alike}
-use Rattle.columns.specs.Values.{networksIn}
 use Rattle.comparing.specs.Product.{Firsts, printOf}
-use Rattle.columns.specs.Edges.{nextEdge}
 use Rattle.comparing.specs.Adding.{addressAt, adding, addingEdges}
-use Rattle.comparing.proofs.Gathering.{Upto, Next, none-yet, printed-all, gathered-firsts, adding-next}
-use Rattle.columns.proofs.Edges.{edge-high, next-edge-above}
-use Rattle.comparing.proofs.EdgeSteps.{alike-between, endsAbove, ends-few, ends-fall, edges-all, edges-few, edges-some}
+use Rattle.comparing.proofs.survey.Gathering.{Upto, Next, none-yet, printed-all, gathered-firsts, adding-next}
+use Rattle.comparing.proofs.survey.EdgeSteps.{alike-between, endsAbove, ends-few, ends-fall, edges-all, edges-few, edges-some}
 
 -- What is found in column 7: its first values in order, the words of their footprints, as many as fit; each is shown by an address or by 2 ^ 32.
 pub record AddressesFound (first second : List Statement) (print : ℕ → ℕ) (found : List ℕ) : Type 0 where

@@ -24,8 +24,8 @@ use Rattle.comparing.specs.declared.kinds.Sides.{Sides}
 use Rattle.comparing.proofs.Members.{keep-joined, keep-same, keep-mapped, mapped-at}
 use Rattle.comparing.proofs.Alike.{holdsFrom, applies-from}
 use Rattle.comparing.proofs.Product.{product-length, firsts-length, product-gaps}
-use Rattle.comparing.proofs.GapRows.{onlyFirstBy, gap-rows}
-use Rattle.comparing.proofs.Sums.{steps-low, left-low}
+use Rattle.comparing.proofs.kinds.GapRows.{onlyFirstBy, gap-rows}
+use Rattle.comparing.proofs.kinds.Sums.{steps-low, left-low}
 
 -- each value in front of its own requests
 abbrev blocks : (Value → List (List Value)) → List Value → List (List Value)

@@ -18,30 +18,30 @@ use Rattle.matching.specs.Rows.{rowOf}
 use Rattle.matching.proofs.States.{row-empty}
 use Rattle.matching.proofs.Columns.{same-row}
 use Rattle.judging.specs.Requests.{Value, absent, text, number}
+use Rattle.states.specs.Rows.{mostStates, rowAt}
+use Rattle.states.specs.Search.{Explored, Exceeded, stringOf}
+use Rattle.columns.specs.Values.{valuesIn, sumOf, networksIn}
+use Rattle.columns.specs.Edges.{nextEdge}
+use Rattle.columns.specs.Both.{Narrow}
+use Rattle.columns.proofs.Widths.{codes-sum}
 use Rattle.comparing.specs.Order.{Before}
 use Rattle.comparing.specs.Requests.{Admitted, AdmitsNeeded, AdmitsOptional, AdmitsAddress}
 use Rattle.comparing.specs.Gaps.{Alike}
-use Rattle.columns.specs.Values.{valuesIn, sumOf, networksIn}
 use Rattle.comparing.specs.Columns.{Few}
 use Rattle.comparing.specs.Compared.{bytesIn}
 use Rattle.comparing.specs.Product.{printOf}
-use Rattle.states.specs.Rows.{mostStates, rowAt}
-use Rattle.states.specs.Search.{Explored, Exceeded, stringOf}
-use Rattle.columns.specs.Edges.{nextEdge}
 use Rattle.comparing.specs.ShownValues.{FirstWith, StartsAt, FoundState, LaidValue, Lays, LaysString, NoneBelow}
-use Rattle.columns.specs.Both.{Narrow}
 use Rattle.comparing.specs.declared.show.ShownText.{ShownText}
 use Rattle.comparing.proofs.Admitting.{needed, is-needed, optional, is-optional}
 use Rattle.comparing.proofs.AllStates.{empty-alone, states-many}
 use Rattle.comparing.proofs.Deciding.{state-decides}
-use Rattle.comparing.proofs.EdgeSteps.{alike-between}
+use Rattle.comparing.proofs.survey.EdgeSteps.{alike-between}
 use Rattle.comparing.proofs.Exploring.{reached, string-reaches, string-behind}
-use Rattle.comparing.proofs.Gathering.{alike-printed, printed-alike}
+use Rattle.comparing.proofs.survey.Gathering.{alike-printed, printed-alike}
 use Rattle.comparing.proofs.NoValues.{texts-alike}
 use Rattle.comparing.proofs.OneAnswer.{few-or-many}
 use Rattle.comparing.proofs.Order.{Compares, before-total}
 use Rattle.comparing.proofs.Ranks.{ranged}
-use Rattle.columns.proofs.Widths.{codes-sum}
 
 -- none of the numbers from one on up to and with the next
 pub none-next : (P : ℕ → Type 0) (from i : ℕ) → ((j : ℕ) → from ≤ j → j < i → P j → ⊥) → (P i → ⊥)

@@ -15,8 +15,8 @@ use Rattle.judging.specs.Rows.{bitOf}
 use Rattle.comparing.specs.Compared.{product, mostKinds}
 use Rattle.comparing.specs.Kinds.{isGapRows, total, countOf, meetAll, meetOf, isSettled, printsBetween, printsFrom, printsIn, Bounded, kindsFrom, KindsAhead}
 use Rattle.comparing.specs.declared.kinds.Sides.{Sides}
-use Rattle.comparing.proofs.GapRows.{and-loses, no-gap, shortcut}
-use Rattle.comparing.proofs.KindsInWords.{prints-length, next-bound, prints-on}
+use Rattle.comparing.proofs.kinds.GapRows.{and-loses, no-gap, shortcut}
+use Rattle.comparing.proofs.kinds.KindsInWords.{prints-length, next-bound, prints-on}
 
 -- rows that are in a meet of two sets are in both
 in-first : (rows x y : ℕ) → bitAnd rows (bitAnd x y) ≡ rows → bitAnd rows x ≡ rows

@@ -23,7 +23,7 @@ use Rattle.comparing.specs.Kinds.{allowedRows, isGapRows, countOf}
 use Rattle.comparing.specs.Product.{printOf, printsFrom, SidesOf}
 use Rattle.comparing.specs.declared.kinds.Sides.{Sides}
 use Rattle.comparing.proofs.Members.{some-same}
-use Rattle.comparing.proofs.Sums.{total-none, total-most}
+use Rattle.comparing.proofs.kinds.Sums.{total-none, total-most}
 
 -- some of the rows that pass allow, and none denies
 abbrev pub allowsBy : (Statement → Bool) → List Statement → Bool

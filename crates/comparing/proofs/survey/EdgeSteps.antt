@@ -15,10 +15,10 @@ use Rattle.judging.specs.Requests.{number}
 use Rattle.judging.specs.Rows.{bitOf}
 use Rattle.columns.specs.Values.{networksIn}
 use Rattle.columns.specs.Edges.{above, nextEdge}
+use Rattle.columns.proofs.Edges.{next-edge-above, between-edges}
 use Rattle.comparing.specs.Gaps.{footprint, Alike}
 use Rattle.comparing.specs.Adding.{adding, addingEdges}
-use Rattle.comparing.proofs.Gathering.{adding-some, adding-few}
-use Rattle.columns.proofs.Edges.{next-edge-above, between-edges}
+use Rattle.comparing.proofs.survey.Gathering.{adding-some, adding-few}
 
 -- the ends of networks above an address
 abbrev pub endsAbove : List (ℕ × ℕ) → ℕ → ℕ

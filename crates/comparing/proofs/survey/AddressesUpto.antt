@@ -10,17 +10,17 @@ use borrow.Author.Tests.{ne-eqb}
 use Rattle.stored.specs.Choice.{pick, some}
 use Rattle.stored.specs.Tables.{Statement}
 use Rattle.judging.specs.Requests.{absent, number}
-use Rattle.columns.specs.Values.{networksIn}
 use Rattle.states.specs.Rows.{printsAt}
-use Rattle.comparing.specs.Product.{printOf}
-use Rattle.columns.specs.Edges.{nextEdge}
-use Rattle.comparing.specs.Adding.{addressAt, adding, addingEdges}
-use Rattle.columns.specs.Both.{FewNetworks}
-use Rattle.comparing.specs.Survey.{printsBetween, addPrint, Added, Gathered}
 use Rattle.states.proofs.Parts.{part-kept}
-use Rattle.comparing.proofs.AddingPrints.{prints-none, prints-length, adding-printed}
-use Rattle.comparing.proofs.Addresses.{AddressesFound, gather-addresses}
-use Rattle.comparing.proofs.EdgeSteps.{edges-on, edges-past}
+use Rattle.columns.specs.Values.{networksIn}
+use Rattle.columns.specs.Edges.{nextEdge}
+use Rattle.columns.specs.Both.{FewNetworks}
+use Rattle.comparing.specs.Product.{printOf}
+use Rattle.comparing.specs.Adding.{addressAt, adding, addingEdges}
+use Rattle.comparing.specs.Survey.{printsBetween, addPrint, Added, Gathered}
+use Rattle.comparing.proofs.survey.AddingPrints.{prints-none, prints-length, adding-printed}
+use Rattle.comparing.proofs.survey.Addresses.{AddressesFound, gather-addresses}
+use Rattle.comparing.proofs.survey.EdgeSteps.{edges-on, edges-past}
 
 -- what joins only makes longer
 adding-grows : (print : ℕ → ℕ) (found : List ℕ) (x : ℕ) → length found ≤ length (adding print found x)

@@ -13,8 +13,8 @@ use lib.Pow.{shl-exact}
 use lib.Seq.{drop-cons, getD-take, getD-drop, length-take-le}
 use borrow.Author.Tests.{lt-ltb, le-ltb}
 use Rattle.stored.specs.Choice.{pick}
-use Rattle.comparing.specs.Compared.{product, mostKinds}
 use Rattle.states.specs.Rows.{printsAt}
+use Rattle.comparing.specs.Compared.{product, mostKinds}
 use Rattle.comparing.specs.Kinds.{total, countOf, stepsTo, leftOf, stepOf, printsAlong, columnPrints, printsFrom, printsIn, Bounded}
 use Rattle.comparing.specs.declared.kinds.Sides.{Sides}
 use Rattle.comparing.specs.declared.kinds.Step.{Step}

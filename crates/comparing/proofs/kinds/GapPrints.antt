@@ -16,8 +16,8 @@ use Rattle.stored.specs.Choice.{pick}
 use Rattle.comparing.specs.Kinds.{countOf, stepsTo, leftOf, printsAlong, printsFrom, printsIn, columnPrints, Bounded}
 use Rattle.comparing.specs.declared.kinds.Sides.{Sides}
 use Rattle.comparing.specs.declared.kinds.Step.{Step}
-use Rattle.comparing.proofs.GapRows.{shortcut}
-use Rattle.comparing.proofs.KindsInWords.{prints-on, prints-length, stepIn}
+use Rattle.comparing.proofs.kinds.GapRows.{shortcut}
+use Rattle.comparing.proofs.kinds.KindsInWords.{prints-on, prints-length, stepIn}
 
 -- the footprints of the columns before a column are laid, and the others are still 0
 pub record Laid (whole prints rest : List ℕ) (column : ℕ) : Type 0 where

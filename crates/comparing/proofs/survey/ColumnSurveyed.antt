@@ -7,14 +7,14 @@ use native.Mathlib.Omega.{arith}
 use lib.ListN.{length, take, drop}
 use Rattle.stored.specs.Tables.{Statement}
 use Rattle.matching.specs.Codes.{codesOf}
-use Rattle.columns.specs.Values.{valuesIn}
-use Rattle.comparing.specs.Columns.{Few, TooMany}
 use Rattle.states.specs.Rows.{printsAt, mostStates}
 use Rattle.states.specs.Search.{Explored, Exceeded}
+use Rattle.columns.specs.Values.{valuesIn}
 use Rattle.columns.specs.Both.{Narrow}
+use Rattle.columns.proofs.Widths.{codes-sum}
+use Rattle.comparing.specs.Columns.{Few, TooMany}
 use Rattle.comparing.specs.Survey.{HasStates, FoundStates, Gathered}
 use Rattle.comparing.specs.declared.survey.States.{States}
-use Rattle.columns.proofs.Widths.{codes-sum}
 use Rattle.comparing.proofs.AllStates.{states-few, states-many}
 
 module _ (first second : List Statement) (column : ℕ) (before after : List ℕ) (r : States) (f : FoundStates first second column before after r)

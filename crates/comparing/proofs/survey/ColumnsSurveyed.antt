@@ -17,11 +17,11 @@ use Rattle.comparing.specs.Compared.{product, mostKinds}
 use Rattle.comparing.specs.Kinds as kinds
 use Rattle.states.specs.Rows.{printsAt}
 use Rattle.comparing.specs.Kinds.{columnPrints}
-use Rattle.comparing.specs.Product.{Firsts, AllFirsts, printOf, printsFrom}
-use Rattle.comparing.specs.Survey.{printsBetween, FewIn, Gathered, Listed}
 use Rattle.states.proofs.Parts.{part-kept}
 use Rattle.states.proofs.Below.{below-next}
-use Rattle.comparing.proofs.Room.{Room, room-start, room-more, room-fits}
+use Rattle.comparing.specs.Product.{Firsts, AllFirsts, printOf, printsFrom}
+use Rattle.comparing.specs.Survey.{printsBetween, FewIn, Gathered, Listed}
+use Rattle.comparing.proofs.survey.Room.{Room, room-start, room-more, room-fits}
 
 -- a property of each list, from a column up to another
 abbrev Along : (ℕ → List Value → Type 0) → ℕ → ℕ → List (List Value) → Type 0

@@ -11,9 +11,9 @@ use borrow.Author.Tests.{ltb-true, ltb-false, lt-ltb, le-ltb}
 use Rattle.stored.specs.Choice.{pick}
 use Rattle.stored.specs.Tables.{Statement}
 use Rattle.columns.specs.Values.{valuesIn, sumOf, networksIn}
+use Rattle.columns.proofs.Widths.{sum-both, networks-both}
 use Rattle.comparing.specs.Columns.{isWide}
 use Rattle.comparing.specs.Compared.{lowest}
-use Rattle.columns.proofs.Widths.{sum-both, networks-both}
 
 -- a sum above a limit, without the sum
 pub over-first : (limit a b : ℕ) → limit < a → true ≡ ltb limit (a + b)

@@ -9,18 +9,18 @@ use Rattle.stored.specs.Tables.{Statement}
 use Rattle.matching.specs.declared.reading.Reading.{Reading}
 use Rattle.matching.specs.Codes.{codesOf}
 use Rattle.judging.specs.Requests.{absent, text}
-use Rattle.columns.specs.Values.{valuesIn, sumOf}
 use Rattle.states.specs.Rows.{printsAt, mostStates, codesAt}
+use Rattle.states.proofs.Parts.{part-kept, front-kept}
+use Rattle.columns.specs.Values.{valuesIn, sumOf}
+use Rattle.columns.proofs.Widths.{codes-sum}
 use Rattle.comparing.specs.Product.{printOf}
 use Rattle.comparing.specs.Adding.{textAt, addingRows}
 use Rattle.comparing.specs.Survey.{HasRoom, HasStates, printsBetween, printAt, addPrint, Added, RowsAdded, Gathered}
-use Rattle.states.proofs.Parts.{part-kept, front-kept}
-use Rattle.comparing.proofs.AddingPrints.{prints-none, prints-length}
-use Rattle.comparing.proofs.StatesKept.{states-kept}
-use Rattle.columns.proofs.Widths.{codes-sum}
+use Rattle.comparing.proofs.survey.AddingPrints.{prints-none, prints-length}
+use Rattle.comparing.proofs.survey.StatesKept.{states-kept}
 use Rattle.comparing.proofs.NoValues.{no-values, texts-alike, firsts-none}
-use Rattle.comparing.proofs.Gathering.{alike-printed}
-use Rattle.comparing.proofs.Texts.{TextsFound, gather-optional, gather-needed}
+use Rattle.comparing.proofs.survey.Gathering.{alike-printed}
+use Rattle.comparing.proofs.survey.Texts.{TextsFound, gather-optional, gather-needed}
 
 some-values : (vs : List (Reading × List ℕ)) → 0 < sumOf vs → 0 < length vs
 some-values [] h = absurd (omega arith)

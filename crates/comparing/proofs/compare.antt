@@ -1,0 +1,5 @@
+-- The laws of the two questions.
+pub mod BothRead
+pub mod NotWide
+pub mod Narrowing
+pub mod Answering

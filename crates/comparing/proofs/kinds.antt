@@ -1,0 +1,7 @@
+-- The laws of counting kinds.
+pub mod Sums
+pub mod GapRows
+pub mod Counting
+pub mod KindsInWords
+pub mod GapPrints
+pub mod Settling

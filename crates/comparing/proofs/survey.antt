@@ -1,0 +1,13 @@
+-- The laws of surveying the columns.
+pub mod AddingPrints
+pub mod Gathering
+pub mod EdgeSteps
+pub mod Addresses
+pub mod AddressesUpto
+pub mod Texts
+pub mod LaidCodes
+pub mod StatesKept
+pub mod TextsGathered
+pub mod ColumnSurveyed
+pub mod Room
+pub mod ColumnsSurveyed
