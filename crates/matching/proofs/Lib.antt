@@ -1,4 +1,4 @@
--- Laws for the crates above: prefixes of a value, rows of bits, states, cursors, networks and the step by words.
+-- Laws for the crates above: prefixes of a value, rows of bits, states, cursors, networks, the step by words and bytes that lead alike.
 pub mod Prefixes
 pub mod Rows
 pub mod States
@@ -7,8 +7,8 @@ pub mod Cursors
 pub mod Networks
 pub mod ByWords
 pub mod MarkedRows
+pub mod AlikeBytes
 mod SymbolsLeft
 mod Parts
 mod Sweeps
 mod WordBits
-mod AlikeBytes

@@ -33,6 +33,11 @@ bit-is : (t : Bool) → eqb (bitNumber t) 1 ≡ t
 bit-is true = refl
 bit-is false = refl
 
+-- a bit behind the lowest one
+pub bit-behind : (word k : ℕ) → wordBit word (suc k) ≡ wordBit (word / 2) k
+bit-behind word k =
+    ap (λ (n : ℕ). eqb (n % 2) 1) (ap (λ (n : ℕ). word / n) (pow-succ' 2 k) ∙ sym (div-div-eq-div-mul word 2 (2 ^ k)))
+
 pub word-bit : (k i : ℕ) (f : ℕ → Bool) → i < k → wordBit (packWord k f) i ≡ f i
 unfolding packWord
 word-bit zero i f h = absurd (not-suc-le-zero h)
@@ -44,17 +49,12 @@ word-bit (suc k) zero f h =
     low : (a r : ℕ) → r < 2 → (a * 2 + r) % 2 ≡ r
     low a r small = omega arith
 word-bit (suc k) (suc i) f h =
-    ap (λ (n : ℕ). eqb (n % 2) 1) (halved (packWord k (λ x. f (suc x))) (bitNumber (f 0)) (bit-small (f 0)))
+    bit-behind (packWord k (λ x. f (suc x)) * 2 + bitNumber (f 0)) i
+    ∙ ap (λ (n : ℕ). wordBit n i) (half (packWord k (λ x. f (suc x))) (bitNumber (f 0)) (bit-small (f 0)))
     ∙ word-bit k i (λ x. f (suc x)) (le-of-suc-le-suc h)
   where
     half : (a r : ℕ) → r < 2 → (a * 2 + r) / 2 ≡ a
     half a r small = omega arith
-
-    halved : (a r : ℕ) → r < 2 → (a * 2 + r) / 2 ^ suc i ≡ a / 2 ^ i
-    halved a r small =
-        ap (λ (n : ℕ). (a * 2 + r) / n) (pow-succ' 2 i)
-        ∙ sym (div-div-eq-div-mul (a * 2 + r) 2 (2 ^ i))
-        ∙ ap (λ (n : ℕ). n / 2 ^ i) (half a r small)
 
 abbrev bitAt : List ℕ → ℕ → ℕ → Bool
 bitAt row i k = wordBit (getD row i 0) k

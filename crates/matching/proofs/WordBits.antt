@@ -1,16 +1,16 @@
 -- The bits of a word: what `&`, `|`, `^`, a sum and a move by one position do to them; so a sum lets each star take over.
 use mathlib.Core.Path.{_≡_, refl, sym, ap, ap₂, _∙_}
-use mathlib.Core.Bool.{Bool, true, false, not, _&&_, _||_, or-false, false≢true}
+use mathlib.Core.Bool.{Bool, true, false, not, _&&_, _||_, or-false}
 use Prim.Native.Nat.{ℕ, zero, suc, _+_, _*_, _/_, _%_, _^_, _<_}
-use native.Mathlib.Nat.{pow-succ', div-div-eq-div-mul, div-one, add-mod-right, mod-eq-of-lt, zero-add, zero-div}
+use native.Mathlib.Nat.{pow-succ', div-one, add-mod-right, mod-eq-of-lt, zero-add}
 use native.Mathlib.Omega.{arith}
 use lib.Dec.{eqb}
 use lib.Pow.{pow-pos}
 use lib.Bits.{bitAnd, bitOr, bitXor, and-block, or-block, xor-block}
 use borrow.Author.Tests.{eqb-true, eqb-false}
 use Rattle.matching.specs.Rows.{wordBit, bitNumber, packWord, nowhere}
-use Rattle.matching.specs.Words.{movedUp, baseBit, overBit, AgreeIn}
-use Rattle.matching.proofs.Rows.{bit-small, word-bit, word-none, word-same}
+use Rattle.matching.specs.Words.{movedUp, baseBit, overBit}
+use Rattle.matching.proofs.Rows.{bit-small, bit-behind, word-none, word-same}
 
 -- a word is packed of its bits
 
@@ -25,10 +25,6 @@ bit-number n = by (eqb (n % 2) 1) refl
         rest zero h other = refl
         rest (suc zero) h other = absurd (other refl)
         rest (suc (suc r)) h other = absurd (omega arith)
-
-bit-behind : (word k : ℕ) → wordBit word (suc k) ≡ wordBit (word / 2) k
-bit-behind word k =
-    ap (λ (n : ℕ). eqb (n % 2) 1) (ap (λ (n : ℕ). word / n) (pow-succ' 2 k) ∙ sym (div-div-eq-div-mul word 2 (2 ^ k)))
 
 word-packed : (k word : ℕ) → word < 2 ^ k → packWord k (wordBit word) ≡ word
 unfolding packWord
@@ -201,30 +197,6 @@ word-base taken stars old before moved fits-taken fits-stars fits-old is =
     (ap₂ bitAnd is (sym (word-packed 64 taken fits-taken)) ∙ word-and 64 (movedUp (wordBit old) (wordBit before 63)) (wordBit taken))
     (ap₂ bitAnd (sym (word-packed 64 old fits-old)) (sym (word-packed 64 stars fits-stars)) ∙ word-and 64 (wordBit old) (wordBit stars))
     ∙ word-or 64 (λ k. movedUp (wordBit old) (wordBit before 63) k && wordBit taken k) (λ k. wordBit old k && wordBit stars k)
-
--- where no bit that was moved up tells two words apart, they agree behind those that were reached
-pub word-alike : (one other old before moved : ℕ) → one < 2 ^ 64 → other < 2 ^ 64
-    → moved ≡ packWord 64 (movedUp (wordBit old) (wordBit before 63)) → bitAnd moved (bitXor one other) ≡ 0
-    → AgreeIn (wordBit one) (wordBit other) (wordBit old) (wordBit before 63)
-word-alike one other old before moved fits-one fits-other is none k h =
-    agree (movedUp (wordBit old) (wordBit before 63) k) (wordBit one k) (wordBit other k)
-    (sym (word-bit 64 k (λ i. movedUp (wordBit old) (wordBit before 63) i && differs (wordBit one i) (wordBit other i)) h)
-    ∙ ap (λ (w : ℕ). wordBit w k) (sym packed ∙ none)
-    ∙ ap (λ (n : ℕ). eqb (n % 2) 1) (zero-div (2 ^ k)))
-  where
-    packed : bitAnd moved (bitXor one other)
-        ≡ packWord 64 (λ i. movedUp (wordBit old) (wordBit before 63) i && differs (wordBit one i) (wordBit other i))
-    packed =
-        ap₂ bitAnd is
-        (ap₂ bitXor (sym (word-packed 64 one fits-one)) (sym (word-packed 64 other fits-other)) ∙ word-xor 64 (wordBit one) (wordBit other))
-        ∙ word-and 64 (movedUp (wordBit old) (wordBit before 63)) (λ i. differs (wordBit one i) (wordBit other i))
-
-    agree : (m x y : Bool) → (m && differs x y) ≡ false → (m && x) ≡ (m && y)
-    agree true true true e = refl
-    agree true true false e = absurd (false≢true (sym e))
-    agree true false true e = absurd (false≢true (sym e))
-    agree true false false e = refl
-    agree false x y e = refl
 
 -- each star takes over what the position in front has
 

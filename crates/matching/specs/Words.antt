@@ -1,8 +1,7 @@
 -- The step of a state by sets of positions: which positions a byte leads to, which stand behind a star, and the row by words.
-use mathlib.Core.Path.{_≡_}
-use mathlib.Core.Bool.{Bool, _&&_, _||_}
+use mathlib.Core.Bool.{Bool, false, _&&_, _||_}
 use mathlib.Core.List.{List}
-use Prim.Native.Nat.{ℕ, zero, suc, _*_, _<_}
+use Prim.Native.Nat.{ℕ, zero, suc, _*_}
 use lib.ListN.{getD}
 use lib.Dec.{eqb, ltb}
 use Rattle.matching.specs.Codes.{starCode, oneCode, takesByte}
@@ -36,14 +35,14 @@ inWords used f p = ltb p (64 * used) && f p
 unfoldable pub wordsRow : ℕ → List ℕ → List ℕ → List ℕ → List ℕ
 wordsRow used taken stars row = pack 8 (inWords used (setStep (rowBit taken) (rowBit stars) (rowBit row)))
 
--- two bytes lead from a row to the same row, whichever positions stand behind a star
-abbrev pub LeadsAlike : ℕ → List ℕ → List ℕ → List ℕ → Type 0
-LeadsAlike used one other row = (stars : List ℕ) → wordsRow used one stars row ≡ wordsRow used other stars row
-
 -- one position up, with what stands in front of the first
 abbrev pub movedUp : (ℕ → Bool) → Bool → ℕ → Bool
 movedUp f before zero = before
 movedUp f before (suc k) = f k
+
+-- the positions behind those of a row
+unfoldable pub aheadRow : List ℕ → List ℕ
+aheadRow row = pack 8 (movedUp (rowBit row) false)
 
 -- in one word: what the byte leads to, and the stars that keep what they had. `before`: the position in front of the word was reached
 abbrev pub baseBit : (ℕ → Bool) → (ℕ → Bool) → (ℕ → Bool) → Bool → ℕ → Bool
@@ -53,7 +52,3 @@ baseBit taken stars old before k = (movedUp old before k && taken k) || (old k &
 abbrev pub overBit : (ℕ → Bool) → (ℕ → Bool) → Bool → ℕ → Bool
 overBit base stars before zero = base 0 || (stars 0 && before)
 overBit base stars before (suc k) = base (suc k) || (stars (suc k) && overBit base stars before k)
-
--- in one word: two bytes lead to the same positions behind those that were reached
-abbrev pub AgreeIn : (ℕ → Bool) → (ℕ → Bool) → (ℕ → Bool) → Bool → Type 0
-AgreeIn one other old before = (k : ℕ) → k < 64 → (movedUp old before k && one k) ≡ (movedUp old before k && other k)

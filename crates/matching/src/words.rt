@@ -3,11 +3,10 @@ use crate::codes::BEHIND_STAR;
 use crate::state::POSITIONS;
 use crate::state::mark;
 ghost use mathlib.Core.Path.{_≡_};
-ghost use mathlib.Core.Bool.{true};
 ghost use Prim.Native.Nat.{_≤_};
 ghost use lib.ListN.{length};
 ghost use Rattle.matching.specs.Rows.{wordBit, packWord};
-ghost use Rattle.matching.specs.Words.{starRow, wordsRow, movedUp, baseBit, overBit, LeadsAlike, AgreeIn};
+ghost use Rattle.matching.specs.Words.{starRow, aheadRow, wordsRow, movedUp, baseBit, overBit};
 
 // The positions behind a star.
 pub fn stars_of(codes: &[u64]) -> [u64; 8]
@@ -29,6 +28,23 @@ fn moved_up(word: u64, before: u64) -> u64
     ensures { λ r. ⌜ r ≡ packWord 64 (movedUp (wordBit word) (wordBit before 63)) ⌝ }
 {
     (word << 1) | (before >> 63)
+}
+
+// The positions behind those of a row.
+pub fn ahead_of(row: [u64; 8]) -> [u64; 8]
+    ensures { λ r. ⌜ r ≡ aheadRow row ⌝ }
+{
+    let mut ahead = [0u64; 8];
+    let mut before: u64 = 0;
+    let mut i: usize = 0;
+    while i < 8 {
+        let word = row[i];
+        let moved = moved_up(word, before);
+        ahead[i] = moved;
+        before = word;
+        i += 1;
+    }
+    ahead
 }
 
 // What a byte leads to, and the stars that keep what they had, in one word. before: the old word before it.
@@ -70,32 +86,4 @@ pub fn step_words(taken: &[u64], stars: &[u64], row: [u64; 8], used: usize) -> [
         i += 1;
     }
     next
-}
-
-// The positions of one word, behind those of the old one, to which one of two bytes leads and the other does not. before: the old word
-// before it.
-fn told_apart(one: u64, other: u64, old: u64, before: u64) -> u64
-    ensures { λ r. ⌜ (r ≡ 0 → AgreeIn (wordBit one) (wordBit other) (wordBit old) (wordBit before 63)) ⌝ }
-{
-    let behind = moved_up(old, before);
-    behind & (one ^ other)
-}
-
-// Whether two bytes lead from a row to the same positions, by its first words: none of those behind the row's positions tells them apart.
-pub fn leads_alike(one: &[u64], other: &[u64], row: [u64; 8], used: usize) -> bool
-    requires { ⌜ (8 ≤ length (now one)) × (8 ≤ length (now other)) × (used ≤ 8) ⌝ }
-    ensures { λ r. ⌜ (r ≡ true → LeadsAlike used (now (one .entry)) (now (other .entry)) row) ⌝ }
-{
-    let mut before: u64 = 0;
-    let mut i: usize = 0;
-    while i < used {
-        let old = row[i];
-        let apart = told_apart(one[i], other[i], old, before);
-        if apart != 0 {
-            return false;
-        }
-        before = old;
-        i += 1;
-    }
-    true
 }

@@ -3,7 +3,12 @@ pub mod Parts
 pub mod Below
 pub mod RowsInWords
 pub mod Stepping
+pub mod BitsOfWords
+pub mod CodeBytes
+pub mod ByteSets
+pub mod NamedBytes
 pub mod MarkedBytes
 pub mod TakenRows
+pub mod Trying
 pub mod StringsOfRows
 pub mod Clearing

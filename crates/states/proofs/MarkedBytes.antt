@@ -1,33 +1,21 @@
--- Marking a position in the rows of bytes: the row of a byte is marked and every other word stays; which bytes a code's position is
--- marked for, by the cases of the code.
-use Prim.Native.Nat.{ℕ, _+_, _-_, _*_, _/_, _%_, _^_, _≤_, _<_}
+-- Marking a position in the rows of bytes: the row of a byte is marked and every other word stays.
+use Prim.Native.Nat.{ℕ, _+_, _*_, _/_, _%_, _^_, _≤_, _<_}
 use mathlib.Core.Path.{_≡_, refl, sym, _∙_, ap, ap₂}
-use mathlib.Core.Bool.{Bool, true, false, _&&_, _||_, or-false}
+use mathlib.Core.Bool.{Bool, true, false}
 use mathlib.Core.List.{List}
 use mathlib.Core.Logic.{_⊎_, inl, inr}
 use native.Mathlib.Omega.{arith}
 use lib.Arith.{lt-of-le-ne}
 use lib.Bits.{bitOr}
-use lib.Dec.{eqb, ltb, leb}
+use lib.Dec.{eqb, ltb}
 use lib.ListN.{length, getD, take, drop, set, length-set}
 use lib.Seq.{getD-set-other, take-set-le, take-set-lt, drop-set-lt, drop-set-add}
-use borrow.Author.Tests.{lt-ltb, le-ltb, leb-true, leb-false, eqb-true, eqb-false, eq-eqb, ne-eqb}
-use Rattle.stored.specs.Choice.{pick}
-use Rattle.matching.specs.Codes.{oneCode}
+use borrow.Author.Tests.{lt-ltb, le-ltb, eqb-true, eqb-false, ne-eqb}
 use Rattle.matching.specs.Rows.{markRow}
-use Rattle.matching.specs.Symbols.{foldByte}
 use Rattle.states.specs.Rows.{takenAt, starsAt, rowAt, IsByte, takenLaid}
-use Rattle.states.specs.Taken.{markedAt, takes, Marks}
+use Rattle.states.specs.Taken.{markedAt, Marks}
 use Rattle.states.proofs.Below.{below-or-from}
 use Rattle.states.proofs.RowsInWords.{part-same, row-word}
-
--- two tests that hold together
-pub eqb-same : (a b c d : ℕ) → (a ≡ b → c ≡ d) → (c ≡ d → a ≡ b) → eqb a b ≡ eqb c d
-eqb-same a b c d to back = by (eqb a b) refl
-  where
-    by : (t : Bool) → eqb a b ≡ t → eqb a b ≡ eqb c d
-    by true e = e ∙ sym (eq-eqb c d (to (eqb-true a b e)))
-    by false e = e ∙ sym (ne-eqb c d (λ w. eqb-false a b e (back w)))
 
 module _ (words : List ℕ) (i p : ℕ) (low : p < 512) (room : i * 8 + 8 ≤ length words) where
   -- the row that was marked
@@ -138,82 +126,3 @@ marks-next before words p b low room is m =
     by : (x : ℕ) → (x < b) ⊎ (b ≤ x) → ((ltb x b ≡ false) × (eqb x b ≡ ltb x (b + 1))) ⊎ ((eqb x b ≡ false) × (ltb x b ≡ ltb x (b + 1)))
     by x (inl h) = inr (ne-eqb x b (λ w. omega arith), lt-ltb x b h ∙ sym (lt-ltb x (b + 1) (omega arith)))
     by x (inr h) = inl (le-ltb x b h, last x h (eqb x b) refl)
-
--- a byte without its case, by the cases of the byte
-pub fold-cases : (x : ℕ) → ((65 ≤ x) × (x ≤ 90) × (foldByte x ≡ x + 32)) ⊎ (((x < 65) ⊎ (90 < x)) × (foldByte x ≡ x))
-fold-cases x = by (leb 65 x) (leb x 90) refl refl
-  where
-    by : (s t : Bool) → leb 65 x ≡ s → leb x 90 ≡ t
-        → ((65 ≤ x) × (x ≤ 90) × (foldByte x ≡ x + 32)) ⊎ (((x < 65) ⊎ (90 < x)) × (foldByte x ≡ x))
-    by true true es et = inl (leb-true 65 x es, leb-true x 90 et, ap₂ (λ (s t : Bool). pick (s && t) (x + 32) x) es et)
-    by true false es et = inr (inr (leb-false x 90 et), ap₂ (λ (s t : Bool). pick (s && t) (x + 32) x) es et)
-    by false t es et = inr (inl (leb-false 65 x es), ap (λ (s : Bool). pick (s && leb x 90) (x + 32) x) es)
-
--- a byte that has no case is itself without it, and no other is
-pub fold-alone : (b x : ℕ) → (b < 65) ⊎ (((90 < b) × (b < 97)) ⊎ (122 < b)) → eqb x b ≡ eqb (foldByte x) b
-fold-alone b x alone = by alone (fold-cases x)
-  where
-    by : (b < 65) ⊎ (((90 < b) × (b < 97)) ⊎ (122 < b)) → ((65 ≤ x) × (x ≤ 90) × (foldByte x ≡ x + 32)) ⊎ (((x < 65) ⊎ (90 < x)) × (foldByte x ≡ x))
-        → eqb x b ≡ eqb (foldByte x) b
-    by (inl h) (inl u) = let e = u .2 in let f = u .0 in let g = u .1 in eqb-same x b (foldByte x) b (λ w. absurd (omega arith)) (λ w. absurd (omega arith))
-    by (inr (inl h)) (inl u) =
-        let e = u .2 in let f = u .0 in let g = u .1 in let k = h .0 in let l = h .1 in
-        eqb-same x b (foldByte x) b (λ w. absurd (omega arith)) (λ w. absurd (omega arith))
-    by (inr (inr h)) (inl u) = let e = u .2 in let f = u .0 in let g = u .1 in eqb-same x b (foldByte x) b (λ w. absurd (omega arith)) (λ w. absurd (omega arith))
-    by h (inr u) = ap (λ (y : ℕ). eqb y b) (sym (u .1))
-
--- no byte is a capital letter without its case
-pub fold-never : (b x : ℕ) → 65 ≤ b → b ≤ 90 → eqb (foldByte x) b ≡ false
-fold-never b x low high = by (fold-cases x)
-  where
-    by : ((65 ≤ x) × (x ≤ 90) × (foldByte x ≡ x + 32)) ⊎ (((x < 65) ⊎ (90 < x)) × (foldByte x ≡ x)) → eqb (foldByte x) b ≡ false
-    by (inl u) = let e = u .2 in let f = u .0 in ne-eqb (foldByte x) b (λ w. omega arith)
-    by (inr (inl h, e)) = ne-eqb (foldByte x) b (λ w. omega arith)
-    by (inr (inr h, e)) = ne-eqb (foldByte x) b (λ w. omega arith)
-
--- a small letter is itself and the capital letter, without their case
-pub fold-letter : (b x : ℕ) → 97 ≤ b → b ≤ 122
-    → ((eqb x b ≡ false) × (eqb x (b - 32) ≡ eqb (foldByte x) b)) ⊎ ((eqb x (b - 32) ≡ false) × (eqb x b ≡ eqb (foldByte x) b))
-fold-letter b x low high = by (fold-cases x)
-  where
-    by : ((65 ≤ x) × (x ≤ 90) × (foldByte x ≡ x + 32)) ⊎ (((x < 65) ⊎ (90 < x)) × (foldByte x ≡ x))
-        → ((eqb x b ≡ false) × (eqb x (b - 32) ≡ eqb (foldByte x) b)) ⊎ ((eqb x (b - 32) ≡ false) × (eqb x b ≡ eqb (foldByte x) b))
-    by (inl u) =
-        let e = u .2 in
-        let f = u .1 in
-        inl (ne-eqb x b (λ w. omega arith), eqb-same x (b - 32) (foldByte x) b (λ w. omega arith) (λ w. omega arith))
-    by (inr (inl h, e)) = inr (ne-eqb x (b - 32) (λ w. omega arith), ap (λ (y : ℕ). eqb y b) (sym e))
-    by (inr (inr h, e)) = inr (ne-eqb x (b - 32) (λ w. omega arith), ap (λ (y : ℕ). eqb y b) (sym e))
-
--- what a code takes
-
--- behind `?`
-pub takes-all : (code x : ℕ) → code ≡ 3 → true ≡ takes code x
-takes-all code x e = sym (ap (λ (c : ℕ). takes c x) e)
-
--- no byte
-pub takes-none : (code x : ℕ) → (code ≡ 3 → ⊥) → code < 4 → takes code x ≡ false
-takes-none code x other low =
-    ap₂ _||_ (ne-eqb code oneCode other)
-    (ap₂ _||_ (ne-eqb code (x * 2 + 4) (λ w. omega arith)) (ne-eqb code (foldByte x * 2 + 5) (λ w. omega arith)))
-
--- one byte, exactly
-pub takes-exact : (code x : ℕ) → 4 ≤ code → code % 2 ≡ 0 → eqb x (code / 2 - 2) ≡ takes code x
-takes-exact code x high even =
-    eqb-same x (code / 2 - 2) code (x * 2 + 4) (λ w. omega arith) (λ w. omega arith)
-    ∙ sym (or-false (eqb code (x * 2 + 4)))
-    ∙ sym
-    (ap₂ _||_ (ne-eqb code oneCode (λ w. omega arith))
-    (ap (λ (t : Bool). eqb code (x * 2 + 4) || t) (ne-eqb code (foldByte x * 2 + 5) (λ w. omega arith))))
-
--- a byte without its case
-pub takes-folded : (code x : ℕ) → 4 ≤ code → (code % 2 ≡ 0 → ⊥) → eqb (foldByte x) (code / 2 - 2) ≡ takes code x
-takes-folded code x high odd =
-    let one : code % 2 ≡ 1 = bit (code % 2) (omega arith) odd in
-    eqb-same (foldByte x) (code / 2 - 2) code (foldByte x * 2 + 5) (λ w. omega arith) (λ w. omega arith)
-    ∙ sym
-    (ap₂ _||_ (ne-eqb code oneCode (λ w. omega arith))
-    (ap (λ (t : Bool). t || eqb code (foldByte x * 2 + 5)) (ne-eqb code (x * 2 + 4) (λ w. omega arith))))
-  where
-    bit : (r : ℕ) → r < 2 → (r ≡ 0 → ⊥) → r ≡ 1
-    bit r small not = let some : 0 < r = lt-of-le-ne (omega arith) (λ w. not (sym w)) in omega arith

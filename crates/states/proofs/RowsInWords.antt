@@ -8,8 +8,8 @@ use native.Mathlib.Omega.{arith}
 use lib.ListN.{length, getD, take, drop, set, length-take, length-drop, length-set, length-append}
 use lib.Arith.{lt-of-le-ne}
 use lib.Seq.{sets, sets-eq, length-sets, length-take-le, take-all, take-suc, take-at, drop-at, drop-append-le, getD-take, getD-drop, getD-set-same, getD-set-other, drop-set-lt, ext-getD}
-use Rattle.states.proofs.Below.{below-or-from}
 use Rattle.states.specs.Rows.{mostStates, keysAt, codesAt, rowAt, keyAt}
+use Rattle.states.proofs.Below.{below-or-from}
 
 -- a run of stores leaves the elements before and behind it
 pub sets-outside : (l vs : List ℕ) (at k : ℕ) → at + length vs ≤ k → getD (sets l at vs) k 0 ≡ getD l k 0

@@ -1,31 +1,28 @@
--- The rows of the bytes in the workspace: laid down position by position, they say which positions take each byte; bytes with the same
--- row make the same steps, and a step by these rows is a step by the codes.
-use Prim.Native.Nat.{ℕ, zero, suc, _+_, _-_, _*_, _/_, _≤_, _<_}
+-- The rows of the bytes in the workspace: laid down position by position, they say which positions take each byte and which
+-- bytes follow others, and a step by these rows is a step by the codes.
+use Prim.Native.Nat.{ℕ, suc, _+_, _-_, _*_, _/_, _≤_, _<_}
 use mathlib.Core.Path.{_≡_, refl, sym, _∙_, ap, ap₂, subst}
-use mathlib.Core.Bool.{Bool, true, false}
+use mathlib.Core.Bool.{Bool, true, false, _||_, false≢true}
 use mathlib.Core.List.{List, [], _∷_, _++_}
-use mathlib.Core.Logic.{_⊎_, inl, inr}
 use native.Mathlib.Omega.{arith}
-use lib.Dec.{ltb}
+use lib.Dec.{eqb}
 use lib.ListN.{length, getD, take, drop, set, replicate, length-take, length-drop, length-set, length-append, length-replicate, getD-replicate, List·getD-append}
-use lib.Seq.{sets, length-sets, length-take-le, take-at, drop-at, take-set-le, drop-set-lt, drop-drop, getD-take, getD-drop, getD-append-add, getD-set-same, getD-set-other, ext-getD}
-use borrow.Author.Tests.{ltb-true}
-use Rattle.stored.specs.Choice.{pick}
-use Rattle.matching.specs.Rows.{pack}
-use Rattle.matching.specs.Words.{takenBit, takenRow, starRow, wordsRow, LeadsAlike}
-use Rattle.matching.proofs.Rows.{upto}
-use Rattle.matching.proofs.ByWords.{step-by-words, same-taken}
+use lib.Seq.{sets, length-sets, length-take-le, take-at, take-all, drop-at, drop-cons, take-set-le, drop-set-lt, drop-drop, getD-take, getD-drop, getD-append-add, getD-set-same, getD-set-other, ext-getD}
+use borrow.Author.Tests.{eqb-true}
+use Rattle.matching.specs.Rows.{rowBit, pack}
+use Rattle.matching.specs.Words.{takenBit, takenRow, starRow, wordsRow}
+use Rattle.matching.proofs.Rows.{upto, row-zero}
+use Rattle.matching.proofs.ByWords.{step-by-words}
 use Rattle.matching.proofs.MarkedRows.{none-marked, mark-more, all-marked, taken-outside}
-use Rattle.states.specs.Rows.{printsAt, codesAt, takenAt, starsAt, leadersAt, rowAt, codesLaid, IsByte, takenLaid, starsLaid, leaderLaid}
-use Rattle.states.specs.Taken.{takes, Marks, RowsLaid, RowBefore, LeadersUpto, Takes, LaysTaken}
-use Rattle.states.specs.Search.{stepFrom, NextLeader, Searchable, Partial}
+use Rattle.states.specs.Rows.{printsAt, codesAt, takenAt, starsAt, followersAt, rowAt, codesLaid, IsByte, takenLaid, starsLaid, followersLaid}
+use Rattle.states.specs.Taken.{takes, Marks, RowsLaid, RowBefore, FollowersOf, FollowersSet, Takes, LaysTaken}
+use Rattle.states.specs.Bytes.{Adds}
+use Rattle.states.specs.Search.{stepFrom, Searchable}
 use Rattle.states.proofs.Parts.{part-kept, front-kept}
-use Rattle.states.proofs.Below.{below-or-from}
 use Rattle.states.proofs.RowsInWords.{row-length, row-word, row-laid, row-kept, sets-behind}
-use Rattle.states.proofs.Stepping.{step-known}
 
 -- no more codes than positions
-codes-few : (positions : ℕ) (words : List ℕ) → length (codesLaid positions words) ≤ positions
+pub codes-few : (positions : ℕ) (words : List ℕ) → length (codesLaid positions words) ≤ positions
 codes-few positions words = omega (arith, length-take positions (drop codesAt words))
 
 -- the rows of the bytes, position by position
@@ -140,82 +137,57 @@ rows-whole positions words cleared after most r laid =
       same = laid .same ∙ r .same;
     }
 
--- the words of the bytes, byte by byte
+-- the bytes that follow others
 
--- a row of a part that begins with a row
-pub row-of-part : (words : List ℕ) (i n j : ℕ) → j * 8 + 8 ≤ n → i * 8 + n ≤ length words → rowAt (take n (drop (i * 8) words)) j ≡ rowAt words (i + j)
-row-of-part words i n j inside room =
-    let size : length (take n (drop (i * 8) words)) ≡ n = length-take-le n (drop (i * 8) words) (omega (arith, length-drop (i * 8) words)) in
-    let eight = row-length (take n (drop (i * 8) words)) j (omega arith) in
-    ext-getD 0 (rowAt (take n (drop (i * 8) words)) j) (rowAt words (i + j)) (eight ∙ sym (row-length words (i + j) (omega arith)))
-    (λ k h.
-    let low : k < 8 = omega arith in
-    row-word (take n (drop (i * 8) words)) j k low
-    ∙ getD-take n (drop (i * 8) words) (j * 8 + k) 0 (omega arith)
-    ∙ getD-drop (i * 8) words (j * 8 + k) 0
-    ∙ ap (λ (m : ℕ). getD words m 0) {x = i * 8 + (j * 8 + k)} {y = (i + j) * 8 + k} (omega arith)
-    ∙ sym (row-word words (i + j) k low))
+pub followers-begin : (words : List ℕ) → FollowersOf words (replicate 2 0)
+followers-begin words b byte set = absurd (false≢true (sym (row-zero 2 b) ∙ set))
 
-pub leaders-begin : (words : List ℕ) → LeadersUpto words words 33
-leaders-begin words = record { leads = λ b byte low none. let high = byte .0 in absurd (omega arith); front = refl; behind = refl; same = refl }
-
--- a byte more, whose row was looked for among those before it
-module _ (before words : List ℕ) (b at mark : ℕ) (is : IsByte b) (room : printsAt ≤ length words) (marked : mark ≡ pick (ltb at (b - 33)) 0 1)
-    (found : at < b - 33 → rowAt (take 752 (drop takenAt words)) at ≡ takenLaid words b) (r : LeadersUpto before words b) where
-  row-here : (x : ℕ) → IsByte x → takenLaid words x ≡ takenLaid before x
-  row-here x byte = let high = byte .1 in part-kept words before leadersAt ((607 + x) * 8) 8 (r .front) (omega arith)
-
-  zero-found : mark ≡ 0 → at < b - 33
-  zero-found none = by (ltb at (b - 33)) refl (sym marked ∙ none)
-    where
-      by : (t : Bool) → ltb at (b - 33) ≡ t → _≡_ {A = ℕ} (pick t 0 1) 0 → at < b - 33
-      by true e z = ltb-true at (b - 33) e
-      by false e z = absurd (omega (arith, z))
-
-  row-found : mark ≡ 0 → RowBefore before b
-  row-found none =
-      let low = zero-found none in
-      let high = is .1 in (
-        33 + at,
-        (omega arith, omega arith),
-        omega arith,
-        sym (row-here (33 + at) (omega arith, omega arith))
-            ∙ ap (rowAt words) {x = 607 + (33 + at)} {y = 640 + at} (omega arith)
-            ∙ sym (row-of-part words 640 752 at (omega arith) (omega arith))
-            ∙ found low
-            ∙ row-here b is,
-      )
-
-  leads-next : (x : ℕ) → IsByte x → (x < b) ⊎ (b ≤ x) → x < b + 1 → leaderLaid (set words (5847 + b) mark) x ≡ 0 → RowBefore before x
-  leads-next x byte (inl less) low none =
-      r .leads x byte less (sym (getD-set-other words (5847 + b) (5847 + x) mark 0 (λ w. omega arith)) ∙ none)
-  leads-next x byte (inr from) low none =
-      let high = is .1 in
-      let last : b ≡ x = omega arith in
-      subst (RowBefore before) last
-      (row-found
-      (sym (getD-set-same words (5847 + b) mark 0 (omega arith))
-      ∙ ap (λ (y : ℕ). getD (set words (5847 + b) mark) (5847 + y) 0) last
-      ∙ none))
-
-  pub leaders-next : LeadersUpto before (set words (5847 + b) mark) (b + 1)
-  leaders-next =
-      let from = is .0 in
-      let high = is .1 in
-      record {
-        leads = λ x byte low none. leads-next x byte (below-or-from x b) low none;
-        front = take-set-le leadersAt words (5847 + b) mark (omega arith) ∙ r .front;
-        behind = drop-set-lt printsAt words (5847 + b) mark (omega arith) ∙ r .behind;
-        same = length-set words (5847 + b) mark ∙ r .same;
-      }
-
--- a byte that does not lead is passed
-pub leader-passed : (words : List ℕ) (from b : ℕ) → b ≤ 0x7E → leaderLaid words b ≡ 0 → NextLeader words from b → NextLeader words from (b + 1)
-leader-passed words from b low none r = record { low = omega (arith, r .low); high = omega arith; between = λ x h k. by x h k (below-or-from x b) }
+pub followers-more : (words row more : List ℕ) (b : ℕ) → FollowersOf words row → Adds row (λ x. eqb x b) more → RowBefore words b → FollowersOf words more
+followers-more words row more b old adds before x byte set =
+    let high = byte .1 in
+    by (rowBit row x) (eqb x b) refl refl (sym (adds x (omega arith)) ∙ set)
   where
-    by : (x : ℕ) → from ≤ x → x < b + 1 → (x < b) ⊎ (b ≤ x) → leaderLaid words x ≡ 0
-    by x h k (inl less) = r .between x h less
-    by x h k (inr last) = ap (leaderLaid words) {x = x} {y = b} (omega arith) ∙ none
+    by : (s t : Bool) → rowBit row x ≡ s → eqb x b ≡ t → (s || t) ≡ true → RowBefore words x
+    by true t e w here = old x byte e
+    by false true e w here = subst (RowBefore words) (sym (eqb-true x b w)) before
+    by false false e w here = absurd (false≢true here)
+
+-- two words laid down
+abbrev pub withPair : List ℕ → ℕ → List ℕ → List ℕ
+withPair words at row = set (set words at (getD row 0 0)) (at + 1) (getD row 1 0)
+
+-- the two words at a place
+pub pair-at : (words : List ℕ) (at : ℕ) → at + 2 ≤ length words → take 2 (drop at words) ≡ getD words at 0 ∷ getD words (at + 1) 0 ∷ []
+pair-at words at room =
+    ap (take 2) (drop-cons words at 0 (omega arith) ∙ ap (λ (l : List ℕ). getD words at 0 ∷ l) (drop-cons words (suc at) 0 (omega arith)))
+    ∙ ap (λ (k : ℕ). getD words at 0 ∷ getD words k 0 ∷ []) {x = suc at} {y = at + 1} (omega arith)
+
+pub followers-set : (words row : List ℕ) → printsAt ≤ length words → length row ≡ 2 → FollowersOf words row → FollowersSet words (withPair words 5880 row)
+followers-set words row room two of =
+    record {
+      follow = subst (FollowersOf words) (sym laid) of;
+      front = take-set-le followersAt (set words 5880 first) 5881 second (omega arith) ∙ take-set-le followersAt words 5880 first (omega arith);
+      behind = drop-set-lt printsAt (set words 5880 first) 5881 second (omega arith) ∙ drop-set-lt printsAt words 5880 first (omega arith);
+      same = long;
+    }
+  where
+    first : ℕ
+    first = getD row 0 0
+
+    second : ℕ
+    second = getD row 1 0
+
+    long : length (withPair words 5880 row) ≡ length words
+    long = length-set (set words 5880 first) 5881 second ∙ length-set words 5880 first
+
+    laid : followersLaid (withPair words 5880 row) ≡ row
+    laid =
+        pair-at (withPair words 5880 row) 5880 (omega (arith, long))
+        ∙ ap₂ (λ (x y : ℕ). x ∷ y ∷ [])
+        (getD-set-other (set words 5880 first) 5881 5880 second 0 (λ w. omega arith) ∙ getD-set-same words 5880 first 0 (omega arith))
+        (getD-set-same (set words 5880 first) 5881 second 0 (omega (arith, length-set words 5880 first)))
+        ∙ sym (pair-at row 0 (omega arith))
+        ∙ take-all 2 row (omega arith)
 
 -- all of it
 
@@ -229,7 +201,7 @@ sets-front l (v ∷ vs) at n low = sets-front (set l at v) vs (suc at) n (omega 
 
 module _ (positions : ℕ) (before rows after stars : List ℕ) (most : positions ≤ 512) (room : printsAt ≤ length before)
     (laid : RowsLaid (codesLaid positions before) before rows) (starred : stars ≡ starRow (codesLaid positions rows))
-    (led : LeadersUpto (sets rows 5872 stars) after 127) where
+    (led : FollowersSet (sets rows 5872 stars) after) where
   eight : length stars ≡ 8
   eight = ap length starred ∙ stars-length (codesLaid positions rows)
 
@@ -249,15 +221,14 @@ module _ (positions : ℕ) (before rows after stars : List ℕ) (most : position
             record {
               taken = λ b byte.
                   let high = byte .1 in
-                  part-kept after (sets rows 5872 stars) leadersAt ((607 + b) * 8) 8 (led .front) (omega arith) ∙ row-last b byte;
-              stars = part-kept after (sets rows 5872 stars) leadersAt (734 * 8) 8 (led .front) (omega arith) ∙ stars-last;
-              leads = λ b byte none.
-                  let high = byte .1 in
-                  let a = led .leads b byte (omega arith) none in
+                  part-kept after (sets rows 5872 stars) followersAt ((607 + b) * 8) 8 (led .front) (omega arith) ∙ row-last b byte;
+              stars = part-kept after (sets rows 5872 stars) followersAt (734 * 8) 8 (led .front) (omega arith) ∙ stars-last;
+              follow = λ b byte set.
+                  let a = led .follow b byte set in
                   (a .0, a .1, a .2, sym (row-last (a .0) (a .1)) ∙ a .3 ∙ row-last b byte);
             };
         front =
-            front-kept after (sets rows 5872 stars) leadersAt takenAt (led .front) (omega arith)
+            front-kept after (sets rows 5872 stars) followersAt takenAt (led .front) (omega arith)
             ∙ sets-front rows stars 5872 takenAt (omega arith)
             ∙ laid .front;
         behind =
@@ -287,14 +258,8 @@ module _ (before after : List ℕ) (same : drop codesAt after ≡ drop codesAt b
       ∙ ap (take 8) (sym (drop-drop (i * 8 - codesAt) codesAt after) ∙ ap (drop (i * 8 - codesAt)) same ∙ drop-drop (i * 8 - codesAt) codesAt before)
       ∙ ap (λ (n : ℕ). take 8 (drop n before)) {x = codesAt + (i * 8 - codesAt)} {y = i * 8} (omega arith)
 
-  word-behind : (k : ℕ) → getD after (codesAt + k) 0 ≡ getD before (codesAt + k) 0
-  word-behind k = sym (getD-drop codesAt after k 0) ∙ ap (λ (l : List ℕ). getD l k 0) same ∙ getD-drop codesAt before k 0
-
-  leader-behind : (b : ℕ) → leaderLaid after b ≡ leaderLaid before b
-  leader-behind b =
-      ap (λ (n : ℕ). getD after n 0) {x = 5847 + b} {y = codesAt + (1239 + b)} (omega arith)
-      ∙ word-behind (1239 + b)
-      ∙ ap (λ (n : ℕ). getD before n 0) {x = codesAt + (1239 + b)} {y = 5847 + b} (omega arith)
+  followers-behind : followersLaid after ≡ followersLaid before
+  followers-behind = ap (take 2) (sym (drop-drop 1272 codesAt after) ∙ ap (drop 1272) same ∙ drop-drop 1272 codesAt before)
 
   -- a search changes none of them
   pub searchable-stays : (positions : ℕ) → length after ≡ length before → Searchable positions before → Searchable positions after
@@ -307,16 +272,9 @@ module _ (before after : List ℕ) (same : drop codesAt after ≡ drop codesAt b
             record {
               taken = λ b byte. let low = byte .0 in row-behind (607 + b) (omega arith) ∙ s .takes .taken b byte;
               stars = row-behind 734 (omega arith) ∙ s .takes .stars;
-              leads = λ b byte none. s .takes .leads b byte (sym (leader-behind b) ∙ none);
+              follow = λ b byte set. s .takes .follow b byte (ap (λ (row : List ℕ). rowBit row b) (sym followers-behind) ∙ set);
             };
       }
-
--- a byte that leads where a smaller one led leads to a row that is there
-pub alike-byte : (codes words : List ℕ) (n i a b : ℕ) → i < n → IsByte a → IsByte b → a < b → Partial codes words n (i * 128 + b)
-    → stepFrom codes words i a ≡ stepFrom codes words i b → Partial codes words n (i * 128 + b + 1)
-alike-byte codes words n i a b low byte-a byte-b less p same =
-    let t = p .tried i a low byte-a (omega arith) in
-    step-known codes words n i b p low byte-b (t .0) (t .1) (t .2 ∙ same)
 
 module _ (positions : ℕ) (words : List ℕ) (s : Searchable positions words) where
   -- a step by the rows is a step by the codes
@@ -325,45 +283,3 @@ module _ (positions : ℕ) (words : List ℕ) (s : Searchable positions words) w
   step-leads i b byte =
       ap₂ (λ (taken stars : List ℕ). wordsRow ((positions + 63) / 64) taken stars (rowAt words i)) (s .takes .taken b byte) (s .takes .stars)
       ∙ step-by-words (codesLaid positions words) (rowAt words i) b ((positions + 63) / 64) (omega (arith, s .most)) (omega (arith, codes-few positions words))
-
-  -- rows that lead alike by words lead alike by the codes
-  pub alike-leads : (i a b : ℕ) → IsByte a → IsByte b
-      → LeadsAlike ((positions + 63) / 64) (takenLaid words a) (takenLaid words b) (rowAt words i)
-      → stepFrom (codesLaid positions words) words i a ≡ stepFrom (codesLaid positions words) words i b
-  alike-leads i a b byte-a byte-b alike = sym (step-leads i a byte-a) ∙ alike (starsLaid words) ∙ step-leads i b byte-b
-
-  -- a byte that does not lead leads to a row that is there
-  pub skip-byte : (n i b : ℕ) → i < n → IsByte b → Partial (codesLaid positions words) words n (i * 128 + b) → leaderLaid words b ≡ 0
-      → Partial (codesLaid positions words) words n (i * 128 + b + 1)
-  skip-byte n i b low byte p none =
-      let f = s .takes .leads b byte none in
-      alike-byte (codesLaid positions words) words n i (f .0) b low (f .1) byte (f .2) p
-      (same-taken (codesLaid positions words) (rowAt words i) (f .0) b (omega (arith, s .most, codes-few positions words)) (f .3))
-
-  -- nor do all bytes up to the next that leads
-  pub skip-bytes : (d n i b : ℕ) → i < n → 0x21 ≤ b → b + d ≤ 127 → ((x : ℕ) → b ≤ x → x < b + d → leaderLaid words x ≡ 0)
-      → Partial (codesLaid positions words) words n (i * 128 + b) → Partial (codesLaid positions words) words n (i * 128 + (b + d))
-  skip-bytes zero n i b low from high none p =
-      subst (Partial (codesLaid positions words) words n) {x = i * 128 + b} {y = i * 128 + (b + 0)} (omega arith) p
-  skip-bytes (suc d) n i b low from high none p =
-      subst (Partial (codesLaid positions words) words n) {x = i * 128 + (b + d) + 1} {y = i * 128 + (b + suc d)} (omega arith)
-      (skip-byte n i (b + d) low (omega arith, omega arith)
-      (skip-bytes d n i b low from (omega arith) (λ x h k. none x h (omega arith)) p)
-      (none (b + d) (omega arith) (omega arith)))
-
-  pub next-byte : (n i b r : ℕ) → i < n → 0x21 ≤ b → NextLeader words b r → Partial (codesLaid positions words) words n (i * 128 + b)
-      → Partial (codesLaid positions words) words n (i * 128 + r)
-  next-byte n i b r low from next p =
-      let up = next .low in
-      let high = next .high in
-      subst (λ (k : ℕ). Partial (codesLaid positions words) words n (i * 128 + k)) {x = b + (r - b)} {y = r} (omega arith)
-      (skip-bytes (r - b) n i b low from (omega arith) (λ x h k. next .between x h (omega arith)) p)
-
--- the same where the codes are those of an earlier workspace
-pub next-byte-kept : (positions : ℕ) (before words : List ℕ) → drop codesAt words ≡ drop codesAt before → Searchable positions words
-    → (n i b r : ℕ) → i < n → 0x21 ≤ b → NextLeader words b r → Partial (codesLaid positions before) words n (i * 128 + b)
-    → Partial (codesLaid positions before) words n (i * 128 + r)
-next-byte-kept positions before words same s n i b r low from next p =
-    let codes = ap (take positions) same in
-    subst (λ (codes : List ℕ). Partial codes words n (i * 128 + r)) codes
-    (next-byte positions words s n i b r low from next (subst (λ (codes : List ℕ). Partial codes words n (i * 128 + b)) (sym codes) p))

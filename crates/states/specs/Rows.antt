@@ -1,6 +1,6 @@
 -- The words of the workspace that a column is explored in, below 5,976: 512 rows of eight words, the key of each row, the codes of the
--- column's positions, a row of the positions that take each byte, one of those behind stars, and a word for each byte that is 0 only where
--- a smaller byte is taken by the same positions.
+-- column's positions, a row of the positions that take each byte, one of those behind stars, and the set of those bytes that follow a
+-- smaller one, which is taken by the same positions.
 use Prim.Native.Nat.{ℕ, _+_, _*_, _≤_}
 use mathlib.Core.List.{List}
 use lib.ListN.{getD, take, drop}
@@ -31,15 +31,15 @@ codesLaid positions words = take positions (drop codesAt words)
 abbrev pub IsByte : ℕ → Type 0
 IsByte b = (0x21 ≤ b) × (b ≤ 0x7E)
 
--- where the rows of the bytes begin, the row of the stars, and the words of the bytes
+-- where the rows of the bytes begin, the row of the stars, and the set of the bytes that follow others
 abbrev pub takenAt : ℕ
 takenAt = 5120
 
 abbrev pub starsAt : ℕ
 starsAt = 5872
 
-abbrev pub leadersAt : ℕ
-leadersAt = 5880
+abbrev pub followersAt : ℕ
+followersAt = 5880
 
 -- the row of a byte, the first byte's being number 640, and the row of the stars
 abbrev pub takenLaid : List ℕ → ℕ → List ℕ
@@ -48,9 +48,9 @@ takenLaid words b = rowAt words (607 + b)
 abbrev pub starsLaid : List ℕ → List ℕ
 starsLaid words = rowAt words 734
 
--- the word of a byte, the first byte's being number 5,880
-abbrev pub leaderLaid : List ℕ → ℕ → ℕ
-leaderLaid words b = getD words (5847 + b) 0
+-- the bytes that follow others
+abbrev pub followersLaid : List ℕ → List ℕ
+followersLaid words = take 2 (drop followersAt words)
 
 -- the footprints of a column in the workspace, from word 5,976 on, between the column's bound and the next one's
 abbrev pub printsAt : ℕ

@@ -8,15 +8,9 @@ use mathlib.Core.Logic.{_⊎_}
 use lib.Dec.{eqb}
 use lib.ListN.{length, drop}
 use Rattle.stored.specs.Choice.{pick}
-use Rattle.matching.specs.Rows.{firstRow, stepRow, forward}
-use Rattle.states.specs.Rows.{printsAt, mostStates, codesAt, rowAt, keyAt, codesLaid, IsByte, leaderLaid}
+use Rattle.matching.specs.Rows.{rowBit, firstRow, stepRow, forward}
+use Rattle.states.specs.Rows.{printsAt, mostStates, codesAt, rowAt, keyAt, codesLaid, IsByte}
 use Rattle.states.specs.Taken.{Takes}
-
--- no byte from one on below r leads; r is a byte, or the number behind the last
-pub record NextLeader (words : List ℕ) (from r : ℕ) : Type 0 where
-  pub low : from ≤ r
-  pub high : r ≤ 127
-  pub between : (x : ℕ) → from ≤ x → x < r → leaderLaid words x ≡ 0
 
 -- a workspace that has room for a search, and the codes of so many positions
 pub record Searchable (positions : ℕ) (words : List ℕ) : Type 0 where
@@ -27,6 +21,11 @@ pub record Searchable (positions : ℕ) (words : List ℕ) : Type 0 where
 -- where the step from row i by byte b leads, given the codes of the column
 abbrev pub stepFrom : List ℕ → List ℕ → ℕ → ℕ → List ℕ
 stepFrom codes words i b = stepRow codes b (rowAt words i)
+
+-- every byte that is not in a set leads from a row where a smaller one leads
+abbrev pub Enough : List ℕ → List ℕ → List ℕ → Type 0
+Enough codes row bytes =
+    (x : ℕ) → IsByte x → rowBit bytes x ≡ false → (a : ℕ) × IsByte a × (a < x) × (stepRow codes a row ≡ stepRow codes x row)
 
 -- n rows were found by the steps before number t, in the order of the steps
 pub record Partial (codes words : List ℕ) (n t : ℕ) : Type 0 where
@@ -79,12 +78,6 @@ pub record FirstAt (words : List ℕ) (n : ℕ) (row : List ℕ) (r : ℕ) : Typ
   pub low : r ≤ n
   pub here : r < n → rowAt words r ≡ row
   pub before : (j : ℕ) → j < r → rowAt words j ≡ row → ⊥
-
--- r is one of n rows that is this one, or n where none is
-pub record FoundAt (words : List ℕ) (n : ℕ) (row : List ℕ) (r : ℕ) : Type 0 where
-  pub low : r ≤ n
-  pub here : r < n → rowAt words r ≡ row
-  pub none : n ≤ r → (j : ℕ) → j < n → rowAt words j ≡ row → ⊥
 
 -- each of n rows but the first has an older one and a byte that it was found by
 pub record Keyed (words : List ℕ) (n : ℕ) : Type 0 where

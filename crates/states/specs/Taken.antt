@@ -1,15 +1,15 @@
 -- What the functions that lay down which positions take which byte promise each other.
 use Prim.Native.Nat.{ℕ, _+_, _*_, _/_, _%_, _^_, _<_}
 use mathlib.Core.Path.{_≡_}
-use mathlib.Core.Bool.{Bool, _||_}
+use mathlib.Core.Bool.{Bool, true, _||_}
 use mathlib.Core.List.{List}
 use lib.Dec.{eqb}
 use lib.Bits.{bitOr}
 use lib.ListN.{length, getD, take, drop, set}
 use Rattle.matching.specs.Codes.{oneCode, takesByte}
-use Rattle.matching.specs.Rows.{markRow}
+use Rattle.matching.specs.Rows.{rowBit, markRow}
 use Rattle.matching.specs.Words.{takenRow, starRow}
-use Rattle.states.specs.Rows.{printsAt, IsByte, takenAt, starsAt, leadersAt, takenLaid, starsLaid, leaderLaid}
+use Rattle.states.specs.Rows.{printsAt, IsByte, takenAt, starsAt, followersAt, takenLaid, starsLaid, followersLaid}
 
 -- position p marked in row i
 abbrev pub markedAt : List ℕ → ℕ → ℕ → List ℕ
@@ -41,10 +41,14 @@ pub record RowsLaid (codes before after : List ℕ) : Type 0 where
 abbrev pub RowBefore : List ℕ → ℕ → Type 0
 RowBefore words b = (a : ℕ) × IsByte a × (a < b) × (takenLaid words a ≡ takenLaid words b)
 
--- the words of the bytes below a bound were laid down: 0 only where a smaller byte has the same row
-pub record LeadersUpto (before after : List ℕ) (bound : ℕ) : Type 0 where
-  pub leads : (b : ℕ) → IsByte b → b < bound → leaderLaid after b ≡ 0 → RowBefore before b
-  pub front : take leadersAt after ≡ take leadersAt before
+-- each byte of a set has the same row as a smaller one
+abbrev pub FollowersOf : List ℕ → List ℕ → Type 0
+FollowersOf words set = (b : ℕ) → IsByte b → rowBit set b ≡ true → RowBefore words b
+
+-- such a set was laid down; what is before and behind it stays
+pub record FollowersSet (before after : List ℕ) : Type 0 where
+  pub follow : FollowersOf before (followersLaid after)
+  pub front : take followersAt after ≡ take followersAt before
   pub behind : drop printsAt after ≡ drop printsAt before
   pub same : length after ≡ length before
 
@@ -52,11 +56,11 @@ pub record LeadersUpto (before after : List ℕ) (bound : ℕ) : Type 0 where
 abbrev pub Follows : List ℕ → ℕ → Type 0
 Follows codes b = (a : ℕ) × IsByte a × (a < b) × (takenRow codes a ≡ takenRow codes b)
 
--- which positions take a byte and which stand behind a star, for these codes
+-- which positions take a byte, which stand behind a star, and which bytes follow others, for these codes
 pub record Takes (codes words : List ℕ) : Type 0 where
   pub taken : TakenLaid codes words
   pub stars : starsLaid words ≡ starRow codes
-  pub leads : (b : ℕ) → IsByte b → leaderLaid words b ≡ 0 → Follows codes b
+  pub follow : (b : ℕ) → IsByte b → rowBit (followersLaid words) b ≡ true → Follows codes b
 
 -- all of this was laid down; what is before and behind it stays
 pub record LaysTaken (codes before after : List ℕ) : Type 0 where

@@ -1,53 +1,46 @@
 // Exploring a column: all states of strings, breadth first, each found by the first step that leads to it.
+use crate::bytes::bytes_to_try;
+use crate::bytes::next_byte;
 use crate::limits::CODES;
 use crate::limits::FIRST_BYTE;
+use crate::limits::FOLLOWERS;
 use crate::limits::KEYS;
 use crate::limits::LAST_BYTE;
-use crate::limits::LEADER;
 use crate::limits::MOST_STATES;
 use crate::limits::STARS;
 use crate::limits::TAKEN_ROW;
 use crate::limits::TOO_MANY_STATES;
+use crate::named::name_positions;
 use crate::rows::find_row;
-use crate::rows::is_row;
 use crate::rows::put_row;
 use crate::rows::row_at;
 use matching::state::first_state;
-use matching::words::leads_alike;
+use matching::words::ahead_of;
 use matching::words::step_words;
 ghost use mathlib.Core.Path.{_≡_};
-ghost use mathlib.Core.Bool.{true};
-ghost use Prim.Native.Nat.{_+_, _*_, _≤_, _<_};
-ghost use lib.ListN.{length};
-ghost use Rattle.states.specs.Rows.{printsAt, IsByte, codesLaid};
-ghost use Rattle.states.specs.Search.{NextLeader, FoundAt, stepFrom, Searchable, Partial, Searched, Explores};
+ghost use Prim.Native.Nat.{_+_, _*_, _<_};
+ghost use Rattle.states.specs.Rows.{IsByte, codesLaid, rowAt};
+ghost use Rattle.states.specs.Search.{Searchable, Enough, Partial, Searched, Explores};
 
-// What a step gives: how many rows there are then, or one too many, and which one it led to.
-struct Tried {
-    rows: usize,
-    at: usize,
-}
-
-// Which of n rows is this one, or n. A guess is looked at first: most bytes lead where the one before them led.
-fn look_for(words: &[u64], n: usize, row: [u64; 8], guess: usize) -> usize
-    requires { ⌜ n * 8 ≤ length (now words) ⌝ }
-    ensures { λ r. ⌜ FoundAt (now (words .entry)) n row r ⌝ }
+// The bytes to try from a row: every other one leads where a smaller one leads.
+fn bytes_from(words: &[u64], positions: usize, row: [u64; 8]) -> [u64; 2]
+    requires { ⌜ Searchable positions (now words) ⌝ }
+    ensures { λ r. ⌜ Enough (codesLaid positions (now (words .entry))) row r ⌝ }
 {
-    if guess < n {
-        if is_row(words, guess, row) {
-            return guess;
-        }
-    }
-    find_row(words, n, row)
+    let ahead = ahead_of(row);
+    let used = (positions + 63) / 64;
+    let named = name_positions(words, ahead, used);
+    let followers = [words[FOLLOWERS], words[FOLLOWERS + 1]];
+    bytes_to_try(named, followers)
 }
 
 // The step from row i by byte b, after n rows were found by the steps before it.
-fn try_step(words: &mut [u64], positions: usize, i: usize, b: u8, n: usize, guess: usize) -> Tried
-    requires { ⌜ Searchable positions (now words) × (i < n) × IsByte b
+fn try_step(words: &mut [u64], positions: usize, i: usize, from: [u64; 8], b: u8, n: usize) -> usize
+    requires { ⌜ Searchable positions (now words) × (i < n) × IsByte b × (from ≡ rowAt (now words) i)
         × Partial (codesLaid positions (now words)) (now words) n (i * 128 + b) ⌝ }
-    ensures { λ r. ⌜ Searched positions (now (words .entry)) (now (words .exit)) n (i * 128 + b + 1) (r .rows) ⌝ }
+    ensures searched { λ r. ⌜ Searched positions (now (words .entry)) (now (words .exit)) n (i * 128 + b + 1) r ⌝ }
+    ensures kept { λ r. ⌜ rowAt (now (words .exit)) i ≡ rowAt (now (words .entry)) i ⌝ }
 {
-    let from = row_at(words, i);
     let taken = (TAKEN_ROW + b as usize) * 8;
     let used = (positions + 63) / 64;
     let row = step_words(
@@ -56,91 +49,35 @@ fn try_step(words: &mut [u64], positions: usize, i: usize, b: u8, n: usize, gues
         from,
         used,
     );
-    let at = look_for(words, n, row, guess);
+    let at = find_row(words, n, row);
     if at < n {
-        return Tried { rows: n, at: at };
+        return n;
     }
     if MOST_STATES <= n {
-        return Tried {
-            rows: TOO_MANY_STATES,
-            at: n,
-        };
+        return TOO_MANY_STATES;
     }
     put_row(words, n, row);
     words[KEYS + n] = (i * 128 + b as usize) as u64;
-    Tried { rows: n + 1, at: n }
+    n + 1
 }
 
-// Whether row i leads by byte b where it leads by another one. It may answer no where it does.
-fn leads_as(words: &[u64], positions: usize, i: usize, last: u8, b: u8) -> bool
-    requires { ⌜ Searchable positions (now words) × IsByte last × IsByte b × (i < 512) ⌝ }
-    ensures { λ r. ⌜ (r ≡ true → stepFrom (codesLaid positions (now (words .entry))) (now (words .entry)) i last
-        ≡ stepFrom (codesLaid positions (now (words .entry))) (now (words .entry)) i b) ⌝ }
-{
-    let from = row_at(words, i);
-    let one = (TAKEN_ROW + last as usize) * 8;
-    let other = (TAKEN_ROW + b as usize) * 8;
-    let used = (positions + 63) / 64;
-    leads_alike(&words[one..one + 8], &words[other..other + 8], from, used)
-}
-
-// The same as try_step. Most bytes lead where the last one tried led: then nothing is left to try. Where none was tried before b, last
-// is not below it.
-fn try_byte(
-    words: &mut [u64],
-    positions: usize,
-    i: usize,
-    last: u8,
-    b: u8,
-    n: usize,
-    guess: usize,
-) -> Tried
-    requires { ⌜ Searchable positions (now words) × (i < n) × IsByte last × IsByte b
-        × Partial (codesLaid positions (now words)) (now words) n (i * 128 + b) ⌝ }
-    ensures { λ r. ⌜ Searched positions (now (words .entry)) (now (words .exit)) n (i * 128 + b + 1) (r .rows) ⌝ }
-{
-    if last < b {
-        if leads_as(words, positions, i, last, b) {
-            return Tried { rows: n, at: guess };
-        }
-    }
-    try_step(words, positions, i, b, n, guess)
-}
-
-// The lowest byte from one on that leads, or the number behind the last byte. The search only asks that none is passed that leads.
-fn next_leader(words: &[u64], from: u8) -> u8
-    requires { ⌜ (printsAt ≤ length (now words)) × (from ≤ 127) ⌝ }
-    ensures { λ r. ⌜ NextLeader (now (words .entry)) from r ⌝ }
-{
-    let mut b = from;
-    while b <= LAST_BYTE {
-        if words[LEADER + b as usize] != 0 {
-            return b;
-        }
-        b += 1;
-    }
-    b
-}
-
-// The steps from row i by all bytes, ascending, after n rows were found by those from the rows before it. A byte that does not lead
-// leads to the same row as a smaller one, so that nothing is left to try.
+// The steps from row i by all bytes, ascending, after n rows were found by those from the rows before it. A byte that is not tried leads
+// to the same row as a smaller one.
 fn try_bytes(words: &mut [u64], positions: usize, i: usize, n: usize) -> usize
     requires { ⌜ Searchable positions (now words) × (i < n) × Partial (codesLaid positions (now words)) (now words) n (i * 128) ⌝ }
     ensures { λ r. ⌜ Searched positions (now (words .entry)) (now (words .exit)) n ((i + 1) * 128) r ⌝ }
 {
+    let from = row_at(words, i);
+    let bytes = bytes_from(words, positions, from);
     let mut found = n;
-    let mut guess = i;
-    let mut last = LAST_BYTE;
-    let mut b = next_leader(words, FIRST_BYTE);
+    let mut b = next_byte(bytes, FIRST_BYTE);
     while b <= LAST_BYTE {
-        let tried = try_byte(words, positions, i, last, b, found, guess);
-        if MOST_STATES < tried.rows {
-            return tried.rows;
+        let more = try_step(words, positions, i, from, b, found);
+        if MOST_STATES < more {
+            return more;
         }
-        found = tried.rows;
-        guess = tried.at;
-        last = b;
-        b = next_leader(words, b + 1);
+        found = more;
+        b = next_byte(bytes, b + 1);
     }
     found
 }

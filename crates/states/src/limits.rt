@@ -11,8 +11,8 @@ pub const FIRST_BYTE: u8 = 0x21;
 pub const LAST_BYTE: u8 = 0x7E;
 
 // In the workspace: 512 rows of eight words, the key of each row, the codes of the column's positions, for each byte the row of the
-// positions that take it, the row of the positions behind stars, for each byte whether it leads those that are taken alike, and the
-// footprints of all columns, one behind the other.
+// positions that take it, the row of the positions behind stars, the set of the bytes that follow others, and the footprints of all
+// columns, one behind the other.
 pub const KEYS: usize = 4096;
 
 pub const CODES: usize = 4608;
@@ -21,11 +21,11 @@ pub const TAKEN: usize = 5120;
 
 pub const STARS: usize = 5872;
 
-// The row of byte b is number TAKEN_ROW + b and its word LEADER + b: those of the first byte, 33, begin at 5,120 and stand at 5,880.
+pub const FOLLOWERS: usize = 5880;
+
+// The row of byte b is number TAKEN_ROW + b: that of the first byte, 33, begins at 5,120.
 pub const TAKEN_ROW: usize = 607;
 
 pub const STARS_ROW: usize = 734;
-
-pub const LEADER: usize = 5847;
 
 pub const PRINTS: usize = 5976;

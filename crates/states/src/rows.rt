@@ -1,7 +1,7 @@
 // Words of the workspace: all of them zero, and rows of eight.
 ghost use mathlib.Core.Path.{_≡_};
-ghost use Prim.Native.Nat.{_+_, _*_, _≤_};
-ghost use lib.ListN.{length, replicate};
+ghost use Prim.Native.Nat.{_+_, _*_, _≤_, _<_};
+ghost use lib.ListN.{length, getD, replicate};
 ghost use lib.Seq.{sets};
 ghost use Rattle.states.specs.Rows.{rowAt};
 ghost use Rattle.states.specs.Search.{Tells, FirstAt};
@@ -61,14 +61,41 @@ pub(crate) fn is_row(words: &[u64], i: usize, row: [u64; 8]) -> bool
     true
 }
 
+// The last word of a row that is not zero, or the first: few rows agree in it.
+fn telling_word(row: [u64; 8]) -> usize
+    ensures { λ r. ⌜ r < 8 ⌝ }
+{
+    let mut k: usize = 7;
+    while 0 < k {
+        if row[k] != 0 {
+            return k;
+        }
+        k -= 1;
+    }
+    0
+}
+
+// Whether row i is this one; told: what the row has in the word to begin with.
+fn is_row_by(words: &[u64], i: usize, row: [u64; 8], word: usize, told: u64) -> bool
+    requires { ⌜ (i * 8 + 8 ≤ length (now words)) × (word < 8) × (told ≡ getD row word 0) ⌝ }
+    ensures { λ r. ⌜ Tells r (rowAt (now (words .entry)) i ≡ row) ⌝ }
+{
+    if words[i * 8 + word] != told {
+        return false;
+    }
+    is_row(words, i, row)
+}
+
 // The lowest of n rows that is this one, or n.
 pub(crate) fn find_row(words: &[u64], n: usize, row: [u64; 8]) -> usize
     requires { ⌜ n * 8 ≤ length (now words) ⌝ }
     ensures { λ r. ⌜ FirstAt (now (words .entry)) n row r ⌝ }
 {
+    let word = telling_word(row);
+    let told = row[word];
     let mut i: usize = 0;
     while i < n {
-        if is_row(words, i, row) {
+        if is_row_by(words, i, row, word, told) {
             return i;
         }
         i += 1;

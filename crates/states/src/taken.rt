@@ -1,15 +1,16 @@
-// Which positions take which byte, laid down once for a column: a row for each byte, the row of the positions behind stars, and for each
-// byte whether it leads those that are taken alike.
+// Which positions take which byte, laid down once for a column: a row for each byte, the row of the positions behind stars, and the set of
+// the bytes that follow others.
+use crate::bytes::with_byte;
 use crate::limits::CODES;
 use crate::limits::FIRST_BYTE;
+use crate::limits::FOLLOWERS;
 use crate::limits::LAST_BYTE;
-use crate::limits::LEADER;
 use crate::limits::STARS;
 use crate::limits::STARS_ROW;
 use crate::limits::TAKEN;
 use crate::limits::TAKEN_ROW;
 use crate::rows::clear;
-use crate::rows::find_row;
+use crate::rows::is_row;
 use crate::rows::put_row;
 use crate::rows::row_at;
 use matching::codes::BEHIND_ONE;
@@ -17,12 +18,11 @@ use matching::words::stars_of;
 ghost use mathlib.Core.Path.{_≡_};
 ghost use mathlib.Core.Bool.{true};
 ghost use Prim.Native.Nat.{_+_, _*_, _≤_, _<_};
-ghost use lib.Dec.{eqb, ltb};
+ghost use lib.Dec.{eqb};
 ghost use lib.ListN.{length};
-ghost use Rattle.stored.specs.Choice.{pick};
 ghost use Rattle.matching.specs.Symbols.{foldByte};
-ghost use Rattle.states.specs.Rows.{printsAt, starsAt, codesLaid};
-ghost use Rattle.states.specs.Taken.{markedAt, takes, Marks, RowsLaid, LeadersUpto, LaysTaken};
+ghost use Rattle.states.specs.Rows.{printsAt, starsAt, IsByte, codesLaid};
+ghost use Rattle.states.specs.Taken.{markedAt, takes, Marks, RowsLaid, FollowersOf, FollowersSet, LaysTaken};
 
 // Marks position p in row i.
 fn mark_at(words: &mut [u64], i: usize, p: usize)
@@ -116,29 +116,41 @@ fn lay_rows(words: &mut [u64], positions: usize)
     }
 }
 
-// 0 where a row was found among those before it, else 1.
-fn leader(at: usize, n: usize) -> u64
-    ensures { λ r. ⌜ r ≡ pick (ltb at n) 0 1 ⌝ }
+// A set of followers, and byte b more where the byte 32 before it has the same row: a small letter follows its capital.
+fn with_follower(words: &[u64], set: [u64; 2], b: u8) -> [u64; 2]
+    requires { ⌜ (starsAt ≤ length (now words)) × (0x41 ≤ b) × IsByte b × FollowersOf (now words) set ⌝ }
+    ensures { λ r. ⌜ FollowersOf (now (words .entry)) r ⌝ }
 {
-    if at < n {
-        return 0;
+    let row = row_at(words, TAKEN_ROW + b as usize);
+    if is_row(words, TAKEN_ROW + (b - 32) as usize, row) {
+        return with_byte(set, b as u64);
     }
-    1
+    set
 }
 
-// For each byte whether no smaller one has its row.
-fn lay_leaders(words: &mut [u64])
-    requires { ⌜ printsAt ≤ length (now words) ⌝ }
-    ensures { λ r. ⌜ LeadersUpto (now (words .entry)) (now (words .exit)) 127 ⌝ }
+// The small letters that are taken by the same positions as their capitals.
+fn followers_of(words: &[u64]) -> [u64; 2]
+    requires { ⌜ starsAt ≤ length (now words) ⌝ }
+    ensures { λ r. ⌜ FollowersOf (now (words .entry)) r ⌝ }
 {
-    let mut b: u8 = FIRST_BYTE;
-    while b <= LAST_BYTE {
-        let row = row_at(words, TAKEN_ROW + b as usize);
-        let before = (b - FIRST_BYTE) as usize;
-        let at = find_row(&words[TAKEN..STARS], before, row);
-        words[LEADER + b as usize] = leader(at, before);
+    let mut set = [0u64; 2];
+    let mut b: u8 = b'a';
+    while b <= b'z' {
+        let more = with_follower(words, set, b);
+        set = more;
         b += 1;
     }
+    set
+}
+
+// Lays down which bytes follow others.
+fn lay_followers(words: &mut [u64])
+    requires { ⌜ printsAt ≤ length (now words) ⌝ }
+    ensures { λ r. ⌜ FollowersSet (now (words .entry)) (now (words .exit)) ⌝ }
+{
+    let set = followers_of(words);
+    words[FOLLOWERS] = set[0];
+    words[FOLLOWERS + 1] = set[1];
 }
 
 // Which positions take which byte, for the codes that are laid down.
@@ -149,5 +161,5 @@ pub fn lay_taken(words: &mut [u64], positions: usize)
     lay_rows(words, positions);
     let stars = stars_of(&words[CODES..CODES + positions]);
     put_row(words, STARS_ROW, stars);
-    lay_leaders(words);
+    lay_followers(words);
 }

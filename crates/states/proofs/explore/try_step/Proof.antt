@@ -9,7 +9,7 @@ use lib.ListN.{length, take, drop, set}
 use Rattle.matching.specs.Words.{wordsRow}
 use Rattle.states.specs.Rows.{mostStates, keysAt, codesAt, codesLaid, rowAt, starsLaid}
 use Rattle.states.specs.Search.{stepFrom, Partial}
-use Rattle.states.proofs.RowsInWords.{withRow, with-kept}
+use Rattle.states.proofs.RowsInWords.{withRow, with-other-row, with-kept}
 use Rattle.states.proofs.Stepping.{step-known, step-over, step-new, step-length}
 use Rattle.states.proofs.TakenRows.{step-leads}
 use borrow.Author.Needs.{needs}
@@ -18,19 +18,16 @@ use Rattle.states.proofs.explore.try_step.Tie as tie
 
 -- the row that the step leads to
 leads : (c : tie.After-step-words) → c .step-words .result
-    ≡ stepFrom (codesLaid (c .before .before .before .before .before .before .before .args .positions) (c .before .before .before .before .before .before .before .args .words .now)) (c .before .before .before .before .before .before .before .args .words .now) (c .before .before .before .before .before .before .before .args .i) (c .before .before .before .before .before .before .before .args .b)
+    ≡ stepFrom (codesLaid (c .before .before .before .before .before .args .positions) (c .before .before .before .before .before .args .words .now)) (c .before .before .before .before .before .args .words .now) (c .before .before .before .before .before .args .i) (c .before .before .before .before .before .args .b)
 leads c =
-    let a = c .before .before .before .before .before .before .before .args in
-    let h = c .before .before .before .before .before .before .before .pre in
+    let a = c .before .before .before .before .before .args in
+    let h = c .before .before .before .before .before .pre in
     let words = a .words .now in
     let at = (607 + a .b) * 8 in
     c .step-words .ensures
     ∙ ap₂ (λ (n : ℕ) (row : List ℕ). wordsRow ((a .positions + 63) / 64) (take n (drop at words)) (starsLaid words) row)
-    {x = at + 8 - at} {y = 8} (omega arith) (c .before .before .before .before .row-at .ensures)
+    {x = at + 8 - at} {y = 8} (omega arith) (h .3)
     ∙ step-leads (a .positions) words (h .0) (a .i) (a .b) (h .2)
-
-row-at-requires : tie.Need-row-at-requires
-row-at-requires c κs = search needs
 
 add-taken : tie.Need-add-taken
 add-taken c = search needs
@@ -71,42 +68,46 @@ part-step-words-end-2 c = search needs
 step-words-requires : tie.Need-step-words-requires
 step-words-requires c κs = search needs
 
-look-for-requires : tie.Need-look-for-requires
-look-for-requires c κs = search needs
+find-row-requires : tie.Need-find-row-requires
+find-row-requires c κs = search needs
 
 same-length : tie.Need-same-length
 same-length c = search needs
 
 returns : tie.Need-returns
 returns c =
-    let a = c .before .before .before .before .before .before .before .before .before .before .args in
-    let h = c .before .before .before .before .before .before .before .before .before .before .pre in
+    let a = c .before .before .before .before .before .before .before .before .args in
+    let h = c .before .before .before .before .before .before .before .before .pre in
     let words = a .words .now in
     let codes = codesLaid (a .positions) words in
     let row = leads (c .before .before .before) in
-    let found = c .before .look-for .ensures in
-    record {
-      kept = refl;
-      more = omega arith;
-      answer = inl (h .3 .few, step-known codes words (a .n) (a .i) (a .b) (h .3) (h .1) (h .2) (c .before .look-for .result) (c .if1 .taken) (found .here (c .if1 .taken) ∙ row));
-    }
+    let found = c .before .find-row .ensures in (
+      record {
+        kept = refl;
+        more = omega arith;
+        answer = inl (h .4 .few, step-known codes words (a .n) (a .i) (a .b) (h .4) (h .1) (h .2) (c .before .find-row .result) (c .if1 .taken) (found .here (c .if1 .taken) ∙ row));
+      },
+      refl,
+    )
 
 same-length-2 : tie.Need-same-length-2
 same-length-2 c = search needs
 
 returns-2 : tie.Need-returns-2
 returns-2 c =
-    let a = c .before .before .before .before .before .before .before .before .before .before .before .args in
-    let h = c .before .before .before .before .before .before .before .before .before .before .before .pre in
+    let a = c .before .before .before .before .before .before .before .before .before .args in
+    let h = c .before .before .before .before .before .before .before .before .before .pre in
     let words = a .words .now in
     let codes = codesLaid (a .positions) words in
     let row = leads (c .before .before .before .before) in
-    let found = c .before .before .look-for .ensures in
-    record {
-      kept = refl;
-      more = omega (arith, h .3 .few);
-      answer = inr (refl, step-over codes words (a .n) (a .i) (a .b) (h .3) (h .1) (h .2) (omega arith) (λ j l same. found .none (omega arith) j l (same ∙ sym row)));
-    }
+    let found = c .before .before .find-row .ensures in (
+      record {
+        kept = refl;
+        more = omega (arith, h .4 .few);
+        answer = inr (refl, step-over codes words (a .n) (a .i) (a .b) (h .4) (h .1) (h .2) (omega arith) (λ j l same. found .before j (omega arith) (same ∙ sym row)));
+      },
+      refl,
+    )
 
 put-row-requires : tie.Need-put-row-requires
 put-row-requires c κs = search needs
@@ -126,41 +127,43 @@ mul-words-2 c = search needs
 slice-write-words : tie.Need-slice-write-words
 slice-write-words c = search needs
 
-add-t15 : tie.Need-add-t15
-add-t15 c = search needs
+add-result : tie.Need-add-result
+add-result c = search needs
 
 same-length-3 : tie.Need-same-length-3
 same-length-3 c = search needs
 
 returns-3 : tie.Need-returns-3
 returns-3 c =
-    let a = c .before .before .before .before .before .before .before .before .before .before .before .before .before .before .before .args in
-    let h = c .before .before .before .before .before .before .before .before .before .before .before .before .before .before .before .pre in
+    let a = c .before .before .before .before .before .before .before .before .before .before .before .before .before .args in
+    let h = c .before .before .before .before .before .before .before .before .before .before .before .before .before .pre in
     let words = a .words .now in
     let codes = codesLaid (a .positions) words in
     let row = leads (c .before .before .before .before .before .before .before .before) in
-    let found = c .before .before .before .before .before .before .look-for .ensures in
+    let found = c .before .before .before .before .before .before .find-row .ensures in
     let result = c .before .before .before .before .before .before .before .before .step-words .result in
     let eight : length result ≡ 8 = ap length row ∙ step-length codes (a .b) (rowAt words (a .i)) in
     let space : a .n < mostStates = omega arith in
-    let laid = ap (λ (l : List ℕ). set l (keysAt + a .n) (a .i * 128 + a .b)) (c .before .before .put-row .ensures) in
-    record {
-      kept = ap (drop codesAt) laid ∙ with-kept words (a .n) result (a .i * 128 + a .b) eight space (omega (arith, h .0 .room));
-      more = omega arith;
-      answer =
-          inl (
-            omega arith,
-            subst (λ (l : List ℕ). Partial codes l (a .n + 1) (a .i * 128 + a .b + 1)) (sym laid)
-                (subst (λ (m : ℕ). Partial codes (withRow words (a .n) result (a .i * 128 + a .b)) m (a .i * 128 + a .b + 1)) (sym (add-one (a .n)))
-                (step-new codes words (a .n) (a .i) (a .b) (h .3) (h .1) (h .2) result row eight space (omega (arith, h .0 .room)) (λ j l. found .none (omega arith) j l))),
-          );
-    }
+    let laid = ap (λ (l : List ℕ). set l (keysAt + a .n) (a .i * 128 + a .b)) (c .before .before .put-row .ensures) in (
+      record {
+        kept = ap (drop codesAt) laid ∙ with-kept words (a .n) result (a .i * 128 + a .b) eight space (omega (arith, h .0 .room));
+        more = omega arith;
+        answer =
+            inl (
+              omega arith,
+              subst (λ (l : List ℕ). Partial codes l (a .n + 1) (a .i * 128 + a .b + 1)) (sym laid)
+                  (subst (λ (m : ℕ). Partial codes (withRow words (a .n) result (a .i * 128 + a .b)) m (a .i * 128 + a .b + 1)) (sym (add-one (a .n)))
+                  (step-new codes words (a .n) (a .i) (a .b) (h .4) (h .1) (h .2) result row eight space (omega (arith, h .0 .room)) (λ j l. found .before j (omega arith)))),
+            );
+      },
+      ap (λ (l : List ℕ). rowAt l (a .i)) laid
+          ∙ with-other-row words (a .n) result (a .i * 128 + a .b) eight space (omega (arith, h .0 .room)) (a .i) (omega (arith, h .1, h .4 .few)) (λ w. omega (arith, h .1)),
+    )
 
 pub try-step-spec : {M : Type 1} → statement M
 try-step-spec =
     tie.close
     (tie.spec
-    row-at-requires
     add-taken
     mul-taken
     add-used
@@ -174,7 +177,7 @@ try-step-spec =
     part-step-words-start-2
     part-step-words-end-2
     step-words-requires
-    look-for-requires
+    find-row-requires
     same-length
     returns
     same-length-2
@@ -185,6 +188,6 @@ try-step-spec =
     add-words-2
     mul-words-2
     slice-write-words
-    add-t15
+    add-result
     same-length-3
     returns-3)

@@ -11,24 +11,33 @@ use Rattle.states.proofs.rows.find_row.Statement.{statement}
 use Rattle.states.proofs.rows.find_row.Tie as tie
 
 abbrev Inv-loop : tie.InvT-loop
-Inv-loop words n row i₀ i = (i ≤ n) × ((j : ℕ) → j < i → rowAt words j ≡ row → ⊥)
+Inv-loop words n row word told i₀ i = (i ≤ n) × ((j : ℕ) → j < i → rowAt words j ≡ row → ⊥)
 
 abbrev μ-loop : tie.MeasureT-loop
-μ-loop words n row i₀ i = n - i
+μ-loop words n row word told i₀ i = n - i
+
+telling-word-requires : tie.Need-telling-word-requires Inv-loop μ-loop
+telling-word-requires c κs = search needs
+
+mul-told : tie.Need-mul-told Inv-loop μ-loop
+mul-told c = search needs
+
+array-read-told : tie.Need-array-read-told Inv-loop μ-loop
+array-read-told c = search needs
 
 loop-holds : tie.Need-loop-holds Inv-loop μ-loop
 loop-holds c = (omega arith, λ j h same. omega arith)
 
-is-row-requires : tie.Need-is-row-requires Inv-loop μ-loop
-is-row-requires c κs = search needs
+is-row-by-requires : tie.Need-is-row-by-requires Inv-loop μ-loop
+is-row-by-requires c κs = search needs
 
 returns : tie.Need-returns Inv-loop μ-loop
 returns c =
     let l = c .before .before .before .loop in
-    let a = c .before .before .before .before .before .args in
+    let a = c .before .before .before .before .before .before .args in
     record {
       low = omega arith;
-      here = λ h. subst (λ (t : Bool). Tells t (rowAt (a .words .now) (l .i) ≡ a .row)) (c .if1 .taken) (c .before .is-row .ensures);
+      here = λ h. subst (λ (t : Bool). Tells t (rowAt (a .words .now) (l .i) ≡ a .t3)) (c .if1 .taken) (c .before .is-row-by .ensures);
       before = l .inv .1;
     }
 
@@ -41,11 +50,11 @@ loop-less c = omega arith
 loop-again : tie.Need-loop-again Inv-loop μ-loop
 loop-again c =
     let l = c .before .before .before .loop in
-    let a = c .before .before .before .before .before .args in (
+    let a = c .before .before .before .before .before .before .args in (
       omega arith,
       λ j h.
-          below-next (λ j. rowAt (a .words .now) j ≡ a .row → ⊥) (l .i) (l .inv .1)
-          (subst (λ (t : Bool). Tells t (rowAt (a .words .now) (l .i) ≡ a .row)) (c .if1 .left) (c .before .is-row .ensures)) j (omega arith),
+          below-next (λ j. rowAt (a .words .now) j ≡ a .t3 → ⊥) (l .i) (l .inv .1)
+          (subst (λ (t : Bool). Tells t (rowAt (a .words .now) (l .i) ≡ a .t3)) (c .if1 .left) (c .before .is-row-by .ensures)) j (omega arith),
     )
 
 returns-2 : tie.Need-returns-2 Inv-loop μ-loop
@@ -59,8 +68,11 @@ find-row-spec =
     (tie.spec
     Inv-loop
     μ-loop
+    telling-word-requires
+    mul-told
+    array-read-told
     loop-holds
-    is-row-requires
+    is-row-by-requires
     returns
     add-i
     loop-less

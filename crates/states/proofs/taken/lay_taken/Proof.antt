@@ -1,4 +1,4 @@
--- The rows of the bytes, then the row of the stars behind them, then the words of the bytes behind that.
+-- The rows of the bytes, then the row of the stars behind them, then the set of the bytes that follow others.
 use Prim.Native.Nat.{ℕ, _+_, _-_}
 use mathlib.Core.Path.{ap, _∙_, subst}
 use mathlib.Core.List.{List}
@@ -6,7 +6,7 @@ use native.Mathlib.Omega.{arith}
 use lib.ListN.{take, drop}
 use Rattle.matching.specs.Words.{starRow}
 use Rattle.states.specs.Rows.{codesAt}
-use Rattle.states.specs.Taken.{LeadersUpto}
+use Rattle.states.specs.Taken.{FollowersSet}
 use Rattle.states.proofs.TakenRows.{taken-laid}
 use borrow.Author.Needs.{needs}
 use Rattle.states.proofs.taken.lay_taken.Statement.{statement}
@@ -33,8 +33,8 @@ stars-of-requires c κs = search needs
 put-row-requires : tie.Need-put-row-requires
 put-row-requires c κs = search needs
 
-lay-leaders-requires : tie.Need-lay-leaders-requires
-lay-leaders-requires c κs = search needs
+lay-followers-requires : tie.Need-lay-followers-requires
+lay-followers-requires c κs = search needs
 
 same-length : tie.Need-same-length
 same-length c = search needs
@@ -45,10 +45,10 @@ returns c =
     let h = c .before .before .before .before .before .before .before .before .before .before .before .before .before .before .before .before .pre in
     let rows = c .before .before .before .before .before .before .before .before .before .before .before .before .before .lay-rows in
     let stars = c .before .before .before .before .before .before .before .before .stars-of in
-    let led = c .before .before .lay-leaders in
+    let led = c .before .before .lay-followers in
     taken-laid (a .positions) (a .words .now) (rows .last .0) (led .last .0) (stars .result) (h .0) (h .1) (rows .ensures)
     (stars .ensures ∙ ap (λ (k : ℕ). starRow (take k (drop codesAt (rows .last .0)))) {x = codesAt + a .positions - codesAt} {y = a .positions} (omega arith))
-    (subst (λ (w : List ℕ). LeadersUpto w (led .last .0) 127) (c .before .before .before .before .before .before .put-row .ensures) (led .ensures))
+    (subst (λ (w : List ℕ). FollowersSet w (led .last .0)) (c .before .before .before .before .before .before .put-row .ensures) (led .ensures))
 
 pub lay-taken-spec : {M : Type 1} → statement M
 lay-taken-spec =
@@ -61,6 +61,6 @@ lay-taken-spec =
     part-stars-of-end
     stars-of-requires
     put-row-requires
-    lay-leaders-requires
+    lay-followers-requires
     same-length
     returns)

@@ -4,7 +4,8 @@ use mathlib.Core.Logic.{inl, inr}
 use native.Mathlib.Omega.{arith}
 use lib.Dec.{eqb}
 use Rattle.matching.specs.Symbols.{foldByte}
-use Rattle.states.proofs.MarkedBytes.{marks-none, marks-as, marks-both, fold-alone, fold-never, fold-letter}
+use Rattle.states.proofs.MarkedBytes.{marks-none, marks-as, marks-both}
+use Rattle.states.proofs.CodeBytes.{fold-alone, fold-never, fold-letter}
 use borrow.Author.Needs.{needs}
 use Rattle.states.proofs.taken.mark_folded.Statement.{statement}
 use Rattle.states.proofs.taken.mark_folded.Tie as tie
