@@ -1,63 +1,40 @@
 -- A row that has none of the last positions of a plan's values runs over the plan like a row of no position: the run looks only there.
 use Prim.Native.Nat.{ℕ, zero, suc, _+_, _-_, _/_, _%_, _^_, _<_, _≤_}
 use mathlib.Core.Path.{_≡_, refl, sym, ap, ap₂, _∙_}
-use mathlib.Core.Bool.{Bool, true, false, not, _||_, false≢true}
+use mathlib.Core.Bool.{Bool, true, false, not, _&&_, _||_, false≢true, and-true}
 use mathlib.Core.List.{List, [], _∷_}
 use mathlib.Core.Logic.{_⊎_, inl, inr}
-use native.Mathlib.Nat.{zero-div, div-self}
 use native.Mathlib.Numerals.{add-one}
 use native.Mathlib.Omega.{arith}
-use lib.Bits.{bitAnd, bitOr, and-shr, and-mod, or-shr, or-mod, or-comm}
+use lib.Bits.{bitAnd, bitOr, or-comm}
 use lib.Dec.{eqb, ltb}
 use lib.ListN.{length, getD, take, drop, set, length-set, length-take, drop-of-length-le, List·getD-eq-default}
-use lib.Pow.{pow-pos}
 use lib.Seq.{slice, slice-cons, drop-cons, getD-set-same}
 use borrow.Author.Tests.{eq-eqb, ne-eqb, eqb-true}
 use Rattle.stored.specs.Choice.{pick}
 use Rattle.matching.specs.Rows.{wordBit, rowBit, markRow}
 use Rattle.matching.proofs.Rows.{below-or-not, row-zero}
+use Rattle.states.proofs.BitsOfWords.{bit-or, bit-and, bit-none, bit-power}
 use Rattle.columns.specs.declared.runs.Run.{Run}
 use Rattle.columns.specs.LastPositions.{noPositions, wordMarked, lastPositions, rowsMeet}
 use Rattle.columns.specs.Plan.{statementWord, beganRun, openedRun, seenRun, runWord, runPlan}
 
 -- the bits of a word
 
-no-bit : (k : ℕ) → wordBit 0 k ≡ false
-no-bit k = ap (λ (n : ℕ). eqb (n % 2) 1) (zero-div (2 ^ k))
-
-odd-or : (x y : ℕ) → x % 2 ≡ 1 → bitOr x y % 2 ≡ 1
-odd-or x y odd = or-mod x y 1 ∙ ap (λ (n : ℕ). bitOr n (y % 2)) odd ∙ one (y % 2) (omega arith)
-  where
-    one : (n : ℕ) → n < 2 → bitOr 1 n ≡ 1
-    one zero h = refl
-    one (suc zero) h = refl
-    one (suc (suc n)) h = absurd (omega arith)
-
-odd-and : (x y : ℕ) → x % 2 ≡ 1 → y % 2 ≡ 1 → bitAnd x y % 2 ≡ 1
-odd-and x y odd also = and-mod x y 1 ∙ ap (λ (n : ℕ). bitAnd n (y % 2)) odd ∙ ap (bitAnd 1) also
-
 or-bit : (a b k : ℕ) → wordBit a k ≡ true → wordBit (bitOr a b) k ≡ true
-or-bit a b k e =
-    eq-eqb (bitOr a b / 2 ^ k % 2) 1
-    (ap (λ (n : ℕ). n % 2) (or-shr a b k) ∙ odd-or (a / 2 ^ k) (b / 2 ^ k) (eqb-true (a / 2 ^ k % 2) 1 e))
+or-bit a b k e = bit-or a b k ∙ ap (λ (t : Bool). t || wordBit b k) e
 
 own-bit : (a k : ℕ) → wordBit (bitOr a (2 ^ k)) k ≡ true
-own-bit a k =
-    ap (λ (w : ℕ). wordBit w k) (or-comm a (2 ^ k))
-    ∙ or-bit (2 ^ k) a k (ap (λ (n : ℕ). eqb (n % 2) 1) (div-self (pow-pos k)))
+own-bit a k = ap (λ (w : ℕ). wordBit w k) (or-comm a (2 ^ k)) ∙ or-bit (2 ^ k) a k (bit-power k k ∙ eq-eqb k k refl)
 
 -- where `&` gives 0, no bit is in both
 and-apart : (a b k : ℕ) → bitAnd a b ≡ 0 → wordBit b k ≡ true → wordBit a k ≡ false
-and-apart a b k none e = by (wordBit a k) refl
-  where
-    by : (t : Bool) → wordBit a k ≡ t → t ≡ false
-    by false is = refl
-    by true is =
-        let one : _≡_ {A = ℕ} 0 1 =
-        sym (ap (λ (n : ℕ). n % 2) (ap (λ (n : ℕ). n / 2 ^ k) none ∙ zero-div (2 ^ k)))
-        ∙ ap (λ (n : ℕ). n % 2) (and-shr a b k)
-        ∙ odd-and (a / 2 ^ k) (b / 2 ^ k) (eqb-true (a / 2 ^ k % 2) 1 is) (eqb-true (b / 2 ^ k % 2) 1 e) in
-        absurd (omega arith)
+and-apart a b k none e =
+    sym (and-true (wordBit a k))
+    ∙ ap (λ (t : Bool). wordBit a k && t) (sym e)
+    ∙ sym (bit-and a b k)
+    ∙ ap (λ (w : ℕ). wordBit w k) none
+    ∙ bit-none k
 
 -- marking
 
@@ -154,8 +131,8 @@ zero-told n e = by (eqb n 0) refl e
     by false is told = absurd (false≢true (sym told))
 
 words-apart : (row ends : List ℕ) → rowsMeet row ends ≡ false → (i k : ℕ) → wordBit (getD ends i 0) k ≡ true → wordBit (getD row i 0) k ≡ false
-words-apart [] ends none i k e = no-bit k
-words-apart (a ∷ row) [] none i k e = absurd (false≢true (sym (no-bit k) ∙ e))
+words-apart [] ends none i k e = bit-none k
+words-apart (a ∷ row) [] none i k e = absurd (false≢true (sym (bit-none k) ∙ e))
 words-apart (a ∷ row) (b ∷ ends) none zero k e = and-apart a b k (zero-told (bitAnd a b) (or-neither (not (eqb (bitAnd a b) 0)) (rowsMeet row ends) none .0)) e
 words-apart (a ∷ row) (b ∷ ends) none (suc i) k e = words-apart row ends (or-neither (not (eqb (bitAnd a b) 0)) (rowsMeet row ends) none .1) i k e
 
@@ -166,7 +143,7 @@ rows-apart row ends none p e = words-apart row ends none (p / 64) (p % 64) e
 -- a position past the words of a row
 past-row : (row : List ℕ) (p : ℕ) → length row ≤ p / 64 → rowBit row p ≡ false
 unfolding rowBit
-past-row row p h = ap (λ (w : ℕ). wordBit w (p % 64)) (List·getD-eq-default row 0 h) ∙ no-bit (p % 64)
+past-row row p h = ap (λ (w : ℕ). wordBit w (p % 64)) (List·getD-eq-default row 0 h) ∙ bit-none (p % 64)
 
 -- one word of a plan: only a value's last position is looked at
 word-alike : (f g : ℕ → Bool) (r : Run) (word : ℕ) → (ltb word 4 ≡ false → f (word - 4) ≡ g (word - 4)) → runWord f r word ≡ runWord g r word

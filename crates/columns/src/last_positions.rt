@@ -1,5 +1,7 @@
 // The last positions of the values of a plan, as a row: a state that has none of them matches no value.
 use crate::runs::FIRST_VALUE;
+use matching::state::POSITIONS;
+use matching::state::mark;
 ghost use mathlib.Core.Path.{_≡_};
 ghost use mathlib.Core.Bool.{true};
 ghost use Prim.Native.Nat.{_≤_};
@@ -8,10 +10,8 @@ ghost use lib.Seq.{slice};
 ghost use Rattle.matching.specs.Rows.{markRow};
 ghost use Rattle.columns.specs.LastPositions.{wordMarked, lastPositions, rowsMeet};
 
-// The words of a row, and its positions.
+// The words of a row.
 const ROW_WORDS: usize = 8;
-
-const POSITIONS: usize = 512;
 
 // The row with position p marked; past its words a row has no position.
 fn marked(row: [u64; 8], p: usize) -> [u64; 8]
@@ -20,12 +20,7 @@ fn marked(row: [u64; 8], p: usize) -> [u64; 8]
     if POSITIONS <= p {
         return row;
     }
-    let i = p / 64;
-    let k = p % 64;
-    let mut more = row;
-    let word = more[i];
-    more[i] = word | (1u64 << k);
-    more
+    mark(row, p, true)
 }
 
 // The row with the last position of a value marked, if the word of the plan is a value.

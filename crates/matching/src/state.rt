@@ -8,7 +8,7 @@ ghost use Prim.Native.Nat.{_<_};
 ghost use Rattle.matching.specs.Rows.{positions, rowBit, markRow, cellStep, firstRow, cellRow};
 
 // The number of positions of a row.
-pub(crate) const POSITIONS: usize = 512;
+pub const POSITIONS: usize = 512;
 
 // Whether position p is in the state.
 pub fn has_position(row: [u64; 8], p: usize) -> bool
@@ -24,7 +24,7 @@ pub fn has_position(row: [u64; 8], p: usize) -> bool
 }
 
 // The row with position p marked, or as it is.
-pub(crate) fn mark(row: [u64; 8], p: usize, reached: bool) -> [u64; 8]
+pub fn mark(row: [u64; 8], p: usize, reached: bool) -> [u64; 8]
     requires { ⌜ p < positions ⌝ }
     ensures { λ r. ⌜ r ≡ markRow row p reached ⌝ }
 {
