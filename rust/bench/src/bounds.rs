@@ -2,7 +2,7 @@
 
 use std::collections::HashSet;
 
-use oracle::compare::states;
+use oracle::compare::states::{self, State};
 use oracle::limits;
 use oracle::matching::Symbol;
 use oracle::table::Statement;
@@ -18,7 +18,7 @@ pub struct Bounds {
     /// Of all columns.
     pub positions: usize,
     pub states: usize,
-    /// For each state of a column and each class of bytes, the words of the state that the step leads to.
+    /// For each state of a column, the words of every different state that one byte more leads to.
     pub words: usize,
 }
 
@@ -29,18 +29,19 @@ pub fn of(pair: &Pair) -> Bounds {
     for column in 0..limits::STRING_COLUMNS {
         let values = states::values_of_column(&rows, column);
         let positions: usize = values.iter().map(|symbols| symbols.len() + 1).sum();
-        let states = states::explore(&values, limits::STATES).map_or(limits::STATES, |reached| reached.len());
+        let reached = states::explore(&values, limits::STATES).unwrap_or_default();
+        let steps: usize = reached.iter().map(|from| next_states(&values, &from.state)).sum();
         bounds.positions += positions;
-        bounds.states += states;
-        bounds.words += states * classes(&values) * positions.div_ceil(WORD_BITS);
+        bounds.states += reached.len();
+        bounds.words += steps * positions.div_ceil(WORD_BITS);
     }
     bounds
 }
 
-/// Bytes that the same positions take count once.
-fn classes(values: &[Vec<Symbol>]) -> usize {
-    let taken = |byte: u8| values.iter().flatten().map(|symbol| symbol.takes(byte)).collect::<Vec<bool>>();
-    (limits::LOWEST_BYTE..=limits::HIGHEST_BYTE).map(taken).collect::<HashSet<_>>().len()
+/// How many states one byte more leads to.
+fn next_states(values: &[Vec<Symbol>], from: &State) -> usize {
+    let bytes = limits::LOWEST_BYTE..=limits::HIGHEST_BYTE;
+    bytes.map(|byte| states::step(values, from, byte)).collect::<HashSet<_>>().len()
 }
 
 #[cfg(test)]
@@ -52,10 +53,12 @@ mod tests {
     fn one_small_pair() {
         let first = table(&[allow(EVERYTHING, &["ab*"], EVERYTHING)]);
         let pair = Pair::of("small", first, table(&[]));
-        // Principal and resource: one value `*`, two states, one class. Action: four positions; states of the empty string, `a`,
-        // `ab`, what goes on behind it, and all others; classes of a, b and the rest. The keys have no position.
+        // Principal and resource: one value `*` and two states, from each of which every byte leads to the second. Action: four
+        // positions; from the empty string `a` and every other byte lead to two states, from `a` `b` and the others do, from `ab`, and
+        // from what goes on behind it, every byte leads to that, and from all others to itself. The keys have no position.
         let bounds = of(&pair);
         assert_eq!((bounds.bytes, bounds.positions), (pair.input().len(), 2 + 4 + 2));
-        assert_eq!(bounds.words, 2 + 5 * 3 + 2);
+        assert_eq!(bounds.states, 2 + 5 + 2 + 4);
+        assert_eq!(bounds.words, 2 + (2 + 2 + 1 + 1 + 1) + 2);
     }
 }
