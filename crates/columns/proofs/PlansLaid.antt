@@ -1,16 +1,16 @@
 -- The plans of two tables in the workspace: where they were laid down they can be read, there is room for them, and they stay where only
 -- footprints are written, with what was worked out by them.
-use Prim.Native.Nat.{ℕ, suc, _+_, _≤_}
+use Prim.Native.Nat.{ℕ, _+_, _≤_}
 use mathlib.Core.Path.{_≡_, refl, sym, ap, ap₂, subst, _∙_}
 use mathlib.Core.Bool.{Bool, true, false}
-use mathlib.Core.List.{List, [], _∷_, _++_}
+use mathlib.Core.List.{List, _++_}
 use native.Mathlib.Omega.{arith}
-use lib.ListN.{length, take, drop, set, length-append}
-use lib.Seq.{sets, sets-eq, length-sets, slice, take-at, drop-at, take-set-le, drop-set-lt, length-take-le}
+use lib.ListN.{length, take, drop, length-append}
+use lib.Seq.{sets, sets-eq, length-sets, slice, take-at, drop-at, length-take-le}
 use Rattle.stored.specs.Entries.{entriesOf, Accepted}
 use Rattle.judging.specs.Judging.{rowsOf}
 use Rattle.states.specs.Rows.{printsAt, codesAt}
-use Rattle.states.proofs.Parts.{front-kept}
+use Rattle.states.proofs.Parts.{front-kept, sets-front, sets-behind}
 use Rattle.columns.specs.Both.{Narrow, FewNetworks}
 use Rattle.columns.specs.Values.{valuesIn, sumOf}
 use Rattle.columns.specs.Plan.{planOf, PlansFit, HasPlans, TextPlans, LaysPlans}
@@ -20,15 +20,7 @@ use Rattle.columns.specs.declared.prints.Prints.{Prints}
 use Rattle.columns.proofs.PlanShort.{plan-short, addresses-short}
 use Rattle.columns.proofs.Widths.{sum-both, networks-both}
 
--- words laid down: those before them and behind them stay, and they can be read
-sets-front : (run words : List ℕ) (at k : ℕ) → k ≤ at → take k (sets words at run) ≡ take k words
-sets-front [] words at k low = refl
-sets-front (x ∷ run) words at k low = sets-front run (set words at x) (suc at) k (omega arith) ∙ take-set-le k words at x low
-
-sets-behind : (run words : List ℕ) (at k : ℕ) → at + length run ≤ k → drop k (sets words at run) ≡ drop k words
-sets-behind [] words at k high = refl
-sets-behind (x ∷ run) words at k high = sets-behind run (set words at x) (suc at) k (omega arith) ∙ drop-set-lt k words at x (omega arith)
-
+-- words laid down can be read
 sets-there : (run words : List ℕ) (at : ℕ) → at + length run ≤ length words → slice at (at + length run) (sets words at run) ≡ run
 sets-there run words at room =
     ap (λ (l : List ℕ). drop at (take (at + length run) l)) (sets-eq run words at room)
@@ -74,10 +66,12 @@ module _ (first second : List ℕ) (column : ℕ) (strings : Bool) (from : ℕ) 
       (record { middle = middle; end = last })
   plans-laid words middle last room is ends =
       record {
+        laid = ap (λ (n : ℕ). sets begun n b) is;
+        places = ap₂ {C = Plans} (λ (m n : ℕ). record { middle = m; end = n }) is (ends ∙ ap (λ (n : ℕ). n + length b) is);
         has =
             record {
               own =
-                  ap (drop codesAt) (sets-front b begun middle middle (omega arith))
+                  ap (drop codesAt) (sets-front begun b middle middle (omega arith))
                   ∙ ap (λ (n : ℕ). slice codesAt n begun) is
                   ∙ sets-there a words codesAt (omega (arith, fit));
               other =
@@ -86,8 +80,8 @@ module _ (first second : List ℕ) (column : ℕ) (strings : Bool) (from : ℕ) 
               order = omega arith;
               within = omega (arith, fit);
             };
-        front = sets-front b begun middle codesAt (omega arith) ∙ sets-front a words codesAt codesAt (omega arith);
-        kept = sets-behind b begun middle printsAt (omega (arith, fit)) ∙ sets-behind a words codesAt printsAt (omega (arith, fit));
+        front = sets-front begun b middle codesAt (omega arith) ∙ sets-front words a codesAt codesAt (omega arith);
+        kept = sets-behind begun b middle printsAt (omega (arith, fit)) ∙ sets-behind words a codesAt printsAt (omega (arith, fit));
         same = length-sets begun middle b ∙ length-sets words codesAt a;
       }
     where

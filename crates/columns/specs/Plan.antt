@@ -7,7 +7,7 @@ use mathlib.Core.List.{List, [], _∷_}
 use lib.Bits.{bitOr}
 use lib.Dec.{eqb, ltb}
 use lib.ListN.{length, take, drop}
-use lib.Seq.{slice}
+use lib.Seq.{sets, slice}
 use Rattle.stored.specs.Choice.{pick}
 use Rattle.stored.specs.Items.{columnPlace, columnNegated, keyCode}
 use Rattle.stored.specs.Operators.{rowOf}
@@ -136,6 +136,20 @@ abbrev pub PlansFit : List ℕ → List ℕ → ℕ → Bool → ℕ → Type 0
 PlansFit first second column strings from =
     (codesAt + length (planOf column strings 0 (entriesOf first))) + length (planOf column strings from (entriesOf second)) ≤ printsAt
 
+-- the workspace with both laid down there, the positions of the second table's values beginning at a place, and where they lie then
+abbrev pub withPlans : List ℕ → List ℕ → ℕ → Bool → ℕ → List ℕ → List ℕ
+withPlans first second column strings from words =
+    sets (sets words codesAt (planOf column strings 0 (entriesOf first)))
+    (codesAt + length (planOf column strings 0 (entriesOf first)))
+    (planOf column strings from (entriesOf second))
+
+abbrev pub plansAt : List ℕ → List ℕ → ℕ → Bool → ℕ → Plans
+plansAt first second column strings from =
+    record {
+      middle = codesAt + length (planOf column strings 0 (entriesOf first));
+      end = (codesAt + length (planOf column strings 0 (entriesOf first))) + length (planOf column strings from (entriesOf second));
+    }
+
 -- they lie there, one behind the other, the positions of the second table's values beginning at a place
 pub record HasPlans (first second : List ℕ) (column : ℕ) (strings : Bool) (from : ℕ) (words : List ℕ) (plans : Plans) : Type 0 where
   pub own : slice codesAt (plans .middle) words ≡ planOf column strings 0 (entriesOf first)
@@ -152,6 +166,8 @@ AddressPlans first second words plans = HasPlans first second 7 false 0 words pl
 
 -- they were laid down; the rows and keys of the search stay, and the footprints
 pub record LaysPlans (first second : List ℕ) (column : ℕ) (strings : Bool) (from : ℕ) (before after : List ℕ) (plans : Plans) : Type 0 where
+  pub laid : after ≡ withPlans first second column strings from before
+  pub places : plans ≡ plansAt first second column strings from
   pub has : HasPlans first second column strings from after plans
   pub front : take codesAt after ≡ take codesAt before
   pub kept : drop printsAt after ≡ drop printsAt before

@@ -10,6 +10,7 @@ use lib.Arith.{lt-of-le-ne}
 use lib.Seq.{sets, sets-eq, length-sets, length-take-le, take-all, take-suc, take-at, drop-at, drop-append-le, getD-take, getD-drop, getD-set-same, getD-set-other, drop-set-lt, ext-getD}
 use Rattle.states.specs.Rows.{mostStates, keysAt, codesAt, rowAt, keyAt}
 use Rattle.states.proofs.Below.{below-or-from}
+use Rattle.states.proofs.Parts.{sets-behind}
 
 -- a run of stores leaves the elements before and behind it
 pub sets-outside : (l vs : List ℕ) (at k : ℕ) → at + length vs ≤ k → getD (sets l at vs) k 0 ≡ getD l k 0
@@ -20,10 +21,6 @@ sets-outside l (v ∷ vs) at k high =
 pub sets-before : (l vs : List ℕ) (at k : ℕ) → k < at → getD (sets l at vs) k 0 ≡ getD l k 0
 sets-before l [] at k low = refl
 sets-before l (v ∷ vs) at k low = sets-before (set l at v) vs (suc at) k (omega arith) ∙ getD-set-other l at k v 0 (λ w. omega arith)
-
-pub sets-behind : (l vs : List ℕ) (at n : ℕ) → at + length vs ≤ n → drop n (sets l at vs) ≡ drop n l
-sets-behind l [] at n high = refl
-sets-behind l (v ∷ vs) at n high = sets-behind (set l at v) vs (suc at) n (omega arith) ∙ drop-set-lt n l at v (omega arith)
 
 -- parts of lists that agree there are the same
 pub part-same : (l m : List ℕ) (at n : ℕ) → length l ≡ length m → ((k : ℕ) → at ≤ k → k < at + n → getD l k 0 ≡ getD m k 0)

@@ -18,8 +18,8 @@ use Rattle.states.specs.Rows.{printsAt, codesAt, takenAt, starsAt, follo
 use Rattle.states.specs.Taken.{takes, Marks, RowsLaid, RowBefore, FollowersOf, FollowersSet, Takes, LaysTaken}
 use Rattle.states.specs.Bytes.{Adds}
 use Rattle.states.specs.Search.{stepFrom, Searchable}
-use Rattle.states.proofs.Parts.{part-kept, front-kept}
-use Rattle.states.proofs.RowsInWords.{row-length, row-word, row-laid, row-kept, sets-behind}
+use Rattle.states.proofs.Parts.{part-kept, front-kept, sets-front, sets-behind}
+use Rattle.states.proofs.RowsInWords.{row-length, row-word, row-laid, row-kept}
 
 -- no more codes than positions
 pub codes-few : (positions : ℕ) (words : List ℕ) → length (codesLaid positions words) ≤ positions
@@ -194,10 +194,6 @@ followers-set words row room two of =
 pub stars-length : (codes : List ℕ) → length (starRow codes) ≡ 8
 unfolding starRow pack
 stars-length codes = refl
-
-sets-front : (l vs : List ℕ) (at n : ℕ) → n ≤ at → take n (sets l at vs) ≡ take n l
-sets-front l [] at n low = refl
-sets-front l (v ∷ vs) at n low = sets-front (set l at v) vs (suc at) n (omega arith) ∙ take-set-le n l at v low
 
 module _ (positions : ℕ) (before rows after stars : List ℕ) (most : positions ≤ 512) (room : printsAt ≤ length before)
     (laid : RowsLaid (codesLaid positions before) before rows) (starred : stars ≡ starRow (codesLaid positions rows))
