@@ -9,6 +9,7 @@ use lib.ListN.{length, getD, take, drop, set, length-take, length-drop, length-s
 use lib.Arith.{lt-of-le-ne}
 use lib.Seq.{sets, sets-eq, length-sets, length-take-le, take-all, take-suc, take-at, drop-at, drop-append-le, getD-take, getD-drop, getD-set-same, getD-set-other, drop-set-lt, ext-getD}
 use Rattle.states.specs.Rows.{mostStates, keysAt, codesAt, rowAt, keyAt}
+use Rattle.states.specs.Search.{Untouched}
 use Rattle.states.proofs.Below.{below-or-from}
 use Rattle.states.proofs.Parts.{sets-behind}
 
@@ -78,6 +79,29 @@ row-kept words i j row eight other =
 pub behind-kept : (words : List ℕ) (i n : ℕ) (row : List ℕ) → length row ≡ 8 → i * 8 + 8 ≤ n → drop n (sets words (i * 8) row) ≡ drop n words
 behind-kept words i n row eight room = sets-behind words row (i * 8) n (omega arith)
 
+-- words that no row and no key is laid in
+
+pub untouched-same : (words : List ℕ) (n : ℕ) → Untouched words words n
+untouched-same words n = record { rows = λ k from to. refl; root = refl; keys = λ k from to. refl }
+
+-- by fewer rows first, then by all
+pub untouched-both : (before words after : List ℕ) (n r : ℕ) → n ≤ r → Untouched before words n → Untouched words after r → Untouched before after r
+untouched-both before words after n r fewer old new =
+    record {
+      rows = λ k from to. new .rows k from to ∙ old .rows k (omega arith) to;
+      root = new .root ∙ old .root;
+      keys = λ k from to. new .keys k from to ∙ old .keys k (omega arith) to;
+    }
+
+-- by the first row, which has no key
+pub untouched-first : (words row : List ℕ) → length row ≡ 8 → Untouched words (sets words (0 * 8) row) 1
+untouched-first words row eight =
+    record {
+      rows = λ k from to. sets-outside words row (0 * 8) k (omega arith);
+      root = sets-outside words row (0 * 8) keysAt (omega arith);
+      keys = λ k from to. sets-outside words row (0 * 8) k (omega arith);
+    }
+
 -- row n and its key laid down
 abbrev pub withRow : List ℕ → ℕ → List ℕ → ℕ → List ℕ
 withRow words n row key = set (sets words (n * 8) row) (keysAt + n) key
@@ -105,3 +129,16 @@ module _ (words : List ℕ) (n : ℕ) (row : List ℕ) (key : ℕ) (eight : leng
 
   pub with-kept : drop codesAt (withRow words n row key) ≡ drop codesAt words
   with-kept = drop-set-lt codesAt (sets words (n * 8) row) (keysAt + n) key (omega arith) ∙ behind-kept words n codesAt row eight (omega arith)
+
+  -- by a row and its key
+  with-outside : (k : ℕ) → n * 8 + 8 ≤ k → (k ≡ keysAt + n → ⊥) → getD (withRow words n row key) k 0 ≡ getD words k 0
+  with-outside k behind other =
+      getD-set-other (sets words (n * 8) row) (keysAt + n) k key 0 other ∙ sets-outside words row (n * 8) k (omega arith)
+
+  pub with-untouched : 0 < n → Untouched words (withRow words n row key) (n + 1)
+  with-untouched some =
+      record {
+        rows = λ k from to. with-outside k (omega arith) (λ w. omega arith);
+        root = with-outside keysAt (omega arith) (λ w. omega arith);
+        keys = λ k from to. with-outside k (omega arith) (λ w. omega arith);
+      }

@@ -6,10 +6,10 @@ use mathlib.Core.Bool.{Bool, true, false}
 use mathlib.Core.List.{List, [], _∷_}
 use mathlib.Core.Logic.{_⊎_}
 use lib.Dec.{eqb}
-use lib.ListN.{length, drop}
+use lib.ListN.{length, getD, drop}
 use Rattle.stored.specs.Choice.{pick}
 use Rattle.matching.specs.Rows.{rowBit, firstRow, stepRow, forward}
-use Rattle.states.specs.Rows.{printsAt, mostStates, codesAt, rowAt, keyAt, codesLaid, IsByte}
+use Rattle.states.specs.Rows.{printsAt, mostStates, keysAt, codesAt, rowAt, keyAt, codesLaid, IsByte}
 use Rattle.states.specs.Taken.{Takes}
 
 -- a workspace that has room for a search, and the codes of so many positions
@@ -56,9 +56,17 @@ pub record Exceeded (codes words : List ℕ) : Type 0 where
   pub byte : IsByte by
   pub new : (j : ℕ) → j < mostStates → rowAt words j ≡ stepFrom codes words row by → ⊥
 
+-- the words before the codes that hold none of n rows, and no key of one but the first, which has none, are as before; where there are too
+-- many rows, they fill their room
+pub record Untouched (before after : List ℕ) (n : ℕ) : Type 0 where
+  pub rows : (k : ℕ) → n * 8 ≤ k → k < keysAt → getD after k 0 ≡ getD before k 0
+  pub root : getD after keysAt 0 ≡ getD before keysAt 0
+  pub keys : (k : ℕ) → keysAt + n ≤ k → k < codesAt → getD after k 0 ≡ getD before k 0
+
 -- a search went on from n rows to the step before number t: r rows were found, or there are too many; the codes stay
 pub record Searched (positions : ℕ) (before after : List ℕ) (n t r : ℕ) : Type 0 where
   pub kept : drop codesAt after ≡ drop codesAt before
+  pub untouched : Untouched before after r
   pub more : n ≤ r
   pub answer :
       ((r ≤ mostStates) × Partial (codesLaid positions before) after r t) ⊎ ((r ≡ suc mostStates) × Exceeded (codesLaid positions before) after)
@@ -66,6 +74,7 @@ pub record Searched (positions : ℕ) (before after : List ℕ) (n t r : ℕ) : 
 -- a whole search: all r rows of a column, or there are too many; the codes and what lies behind them stay
 pub record Explores (codes before after : List ℕ) (r : ℕ) : Type 0 where
   pub kept : drop codesAt after ≡ drop codesAt before
+  pub untouched : Untouched before after r
   pub answer : ((r ≤ mostStates) × Explored codes after r) ⊎ ((r ≡ suc mostStates) × Exceeded codes after)
 
 -- an answer that says whether P

@@ -7,8 +7,8 @@ use native.Mathlib.Omega.{arith}
 use lib.ListN.{length, take, drop}
 use Rattle.matching.specs.Rows.{firstRow}
 use Rattle.states.specs.Rows.{codesAt, codesLaid, rowAt}
-use Rattle.states.specs.Search.{Partial}
-use Rattle.states.proofs.RowsInWords.{row-laid, behind-kept}
+use Rattle.states.specs.Search.{Partial, Untouched}
+use Rattle.states.proofs.RowsInWords.{row-laid, behind-kept, untouched-same, untouched-both, untouched-first}
 use Rattle.states.proofs.Stepping.{search-begins, search-goes-on, search-ends, first-length}
 use Rattle.states.proofs.TakenRows.{searchable-stays}
 use borrow.Author.Needs.{needs}
@@ -18,6 +18,7 @@ use Rattle.states.proofs.explore.explore.Tie as tie
 abbrev Inv-loop : tie.InvT-loop
 Inv-loop words₀ positions n₀ row₀ words n row =
     (row ≤ n) × (length words ≡ length words₀) × (drop codesAt words ≡ drop codesAt words₀) × Partial (codesLaid positions words₀) words n (row * 128)
+    × Untouched words₀ words n
 
 abbrev μ-loop : tie.MeasureT-loop
 μ-loop words₀ positions n₀ row₀ words n row = 512 - row
@@ -40,6 +41,10 @@ module _ (c : tie.After-put-row Inv-loop μ-loop) where
   -- the first row changes no code
   stay : drop codesAt (c .put-row .last .0) ≡ drop codesAt words
   stay = ap (drop codesAt) (c .put-row .ensures) ∙ behind-kept words 0 codesAt (c .before .before .first-state .result) eight (omega arith)
+
+  untouched : Untouched words (c .put-row .last .0) 1
+  untouched =
+      subst (λ (l : List ℕ). Untouched words l 1) (sym (c .put-row .ensures)) (untouched-first words (c .before .before .first-state .result) eight)
 
   begun : Partial (codesLaid positions (c .put-row .last .0)) (c .put-row .last .0) 1 0
   begun =
@@ -68,7 +73,7 @@ put-row-requires : tie.Need-put-row-requires Inv-loop μ-loop
 put-row-requires c κs = search needs
 
 loop-holds : tie.Need-loop-holds Inv-loop μ-loop
-loop-holds c = (omega arith, refl, refl, begun (c .before .before))
+loop-holds c = (omega arith, refl, refl, begun (c .before .before), untouched-same (c .before .before .put-row .last .0) 1)
 
 try-bytes-requires : tie.Need-try-bytes-requires Inv-loop μ-loop
 try-bytes-requires c κs =
@@ -89,9 +94,14 @@ returns c =
     let l = c .before .before .before .before .before .before .loop in
     let a = c .before .before .before .before .before .before .before .before .before .before .before .before .before .before .before .args in
     let s = c .before .before .before .try-bytes in
-    let same = l .inv .2 ∙ stay (c .before .before .before .before .before .before .before .before .before) in
+    let p = c .before .before .before .before .before .before .before .before .before in
+    let laid = p .put-row .last .0 in
+    let same = l .inv .2 ∙ stay p in
     record {
       kept = s .ensures .kept ∙ same;
+      untouched =
+          untouched-both (a .words .now) laid (s .last .0) 1 (s .result) (omega (arith, l .inv .3 .some, s .ensures .more)) (untouched p)
+          (untouched-both laid (l .words) (s .last .0) (l .n) (s .result) (s .ensures .more) (l .inv .4) (s .ensures .untouched));
       answer = inr (search-ends (a .positions) (a .words .now) (l .words) (s .last .0) (l .n) ((l .row + 1) * 128) (s .result) same (s .ensures) (omega arith));
     }
 
@@ -111,6 +121,7 @@ loop-again c =
       s .kept .0 ∙ l .inv .1,
       s .ensures .kept ∙ l .inv .2,
       search-goes-on (a .positions) laid (l .words) (s .last .0) (l .n) ((l .row + 1) * 128) (s .result) (l .inv .2) (s .ensures) (omega arith),
+      untouched-both laid (l .words) (s .last .0) (l .n) (s .result) (s .ensures .more) (l .inv .4) (s .ensures .untouched),
     )
 
 same-length-2 : tie.Need-same-length-2 Inv-loop μ-loop
@@ -123,6 +134,7 @@ returns-2 c =
     let all : l .row ≡ l .n = omega arith in
     record {
       kept = l .inv .2 ∙ stay (c .before .before .before .before);
+      untouched = untouched-both (a .words .now) (c .before .before .before .before .put-row .last .0) (l .words) 1 (l .n) (l .inv .3 .some) (untouched (c .before .before .before .before)) (l .inv .4);
       answer =
           inl (
             l .inv .3 .few,

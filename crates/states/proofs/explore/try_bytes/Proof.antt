@@ -6,7 +6,8 @@ use mathlib.Core.Logic.{inl, inr}
 use native.Mathlib.Omega.{arith}
 use lib.ListN.{length, take, drop}
 use Rattle.states.specs.Rows.{codesAt, codesLaid, rowAt}
-use Rattle.states.specs.Search.{Enough, Partial}
+use Rattle.states.specs.Search.{Enough, Partial, Untouched}
+use Rattle.states.proofs.RowsInWords.{untouched-same, untouched-both}
 use Rattle.states.proofs.Stepping.{search-later, search-goes-on, search-ends}
 use Rattle.states.proofs.TakenRows.{searchable-stays}
 use Rattle.states.proofs.Trying.{skip-to}
@@ -17,7 +18,7 @@ use Rattle.states.proofs.explore.try_bytes.Tie as tie
 abbrev Inv-loop : tie.InvT-loop
 Inv-loop words₀ positions i n from bytes found₀ b₀ words found b =
     (0x21 ≤ b) × (b ≤ 0x7F) × (n ≤ found) × (length words ≡ length words₀) × (drop codesAt words ≡ drop codesAt words₀)
-    × (rowAt words i ≡ rowAt words₀ i) × Partial (codesLaid positions words₀) words found (i * 128 + b)
+    × (rowAt words i ≡ rowAt words₀ i) × Partial (codesLaid positions words₀) words found (i * 128 + b) × Untouched words₀ words found
 
 abbrev μ-loop : tie.MeasureT-loop
 μ-loop words₀ positions i n from bytes found₀ b₀ words found b = 0x7F - b
@@ -47,6 +48,7 @@ loop-holds c =
       skip-to codes (a .words .now) (bytes .result) (a .n) (a .i) (h .1)
           (subst (λ (row : List ℕ). Enough codes row (bytes .result)) (c .before .before .before .row-at .ensures) (bytes .ensures)) 0x21 (next .result) (omega arith) (next .ensures)
           (search-later codes (a .words .now) (a .n) (a .i * 128) _ (h .2) (omega arith) (λ i b is k. omega arith)),
+      untouched-same (a .words .now) (a .n),
     )
 
 try-step-requires : tie.Need-try-step-requires Inv-loop μ-loop
@@ -72,6 +74,7 @@ returns c =
     let searched = s .ensures .0 in
     record {
       kept = searched .kept ∙ l .inv .4;
+      untouched = untouched-both (a .words .now) (l .words) (s .last .0) (l .found) (s .result) (searched .more) (l .inv .7) (searched .untouched);
       more = omega (arith, searched .more, l .inv .2);
       answer = inr (search-ends (a .positions) (a .words .now) (l .words) (s .last .0) (l .found) (a .i * 128 + l .b + 1) (s .result) (l .inv .4) searched (omega arith));
     }
@@ -106,6 +109,7 @@ loop-again c =
           (subst (λ (row : List ℕ). Enough codes row (bytes .result)) (c .before .before .before .before .before .before .before .before .before .before .before .row-at .ensures ∙ sym row) (bytes .ensures)) (l .b + 1) (next .result) (omega arith) (next .ensures)
           (subst (λ (t : ℕ). Partial codes (s .last .0) (s .result) t) {x = a .i * 128 + l .b + 1} {y = a .i * 128 + (l .b + 1)} (omega arith)
           (search-goes-on (a .positions) (a .words .now) (l .words) (s .last .0) (l .found) (a .i * 128 + l .b + 1) (s .result) (l .inv .4) searched (omega arith))),
+      untouched-both (a .words .now) (l .words) (s .last .0) (l .found) (s .result) (searched .more) (l .inv .7) (searched .untouched),
     )
 
 same-length-2 : tie.Need-same-length-2 Inv-loop μ-loop
@@ -117,6 +121,7 @@ returns-2 c =
     let a = c .before .before .before .before .before .before .before .before .args in
     record {
       kept = l .inv .4;
+      untouched = l .inv .7;
       more = l .inv .2;
       answer =
           inl (

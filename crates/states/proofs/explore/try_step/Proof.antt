@@ -1,5 +1,5 @@
 -- The row that the step leads to is looked for among those that were found; where it is new it goes behind them.
-use Prim.Native.Nat.{ℕ, _+_, _-_, _*_, _/_, _<_}
+use Prim.Native.Nat.{ℕ, suc, _+_, _-_, _*_, _/_, _<_}
 use mathlib.Core.Path.{_≡_, refl, sym, ap, ap₂, _∙_, subst}
 use mathlib.Core.List.{List}
 use mathlib.Core.Logic.{inl, inr}
@@ -8,8 +8,8 @@ use native.Mathlib.Omega.{arith}
 use lib.ListN.{length, take, drop, set}
 use Rattle.matching.specs.Words.{wordsRow}
 use Rattle.states.specs.Rows.{mostStates, keysAt, codesAt, codesLaid, rowAt, starsLaid}
-use Rattle.states.specs.Search.{stepFrom, Partial}
-use Rattle.states.proofs.RowsInWords.{withRow, with-other-row, with-kept}
+use Rattle.states.specs.Search.{stepFrom, Partial, Untouched}
+use Rattle.states.proofs.RowsInWords.{withRow, with-other-row, with-kept, with-untouched, untouched-same}
 use Rattle.states.proofs.Stepping.{step-known, step-over, step-new, step-length}
 use Rattle.states.proofs.TakenRows.{step-leads}
 use borrow.Author.Needs.{needs}
@@ -84,6 +84,7 @@ returns c =
     let found = c .before .find-row .ensures in (
       record {
         kept = refl;
+        untouched = untouched-same words (a .n);
         more = omega arith;
         answer = inl (h .4 .few, step-known codes words (a .n) (a .i) (a .b) (h .4) (h .1) (h .2) (c .before .find-row .result) (c .if1 .taken) (found .here (c .if1 .taken) ∙ row));
       },
@@ -103,6 +104,7 @@ returns-2 c =
     let found = c .before .before .find-row .ensures in (
       record {
         kept = refl;
+        untouched = untouched-same words (suc mostStates);
         more = omega (arith, h .4 .few);
         answer = inr (refl, step-over codes words (a .n) (a .i) (a .b) (h .4) (h .1) (h .2) (omega arith) (λ j l same. found .before j (omega arith) (same ∙ sym row)));
       },
@@ -147,6 +149,9 @@ returns-3 c =
     let laid = ap (λ (l : List ℕ). set l (keysAt + a .n) (a .i * 128 + a .b)) (c .before .before .put-row .ensures) in (
       record {
         kept = ap (drop codesAt) laid ∙ with-kept words (a .n) result (a .i * 128 + a .b) eight space (omega (arith, h .0 .room));
+        untouched =
+            subst (λ (l : List ℕ). Untouched words l (a .n + 1)) (sym laid)
+            (with-untouched words (a .n) result (a .i * 128 + a .b) eight space (omega (arith, h .0 .room)) (h .4 .some));
         more = omega arith;
         answer =
             inl (
