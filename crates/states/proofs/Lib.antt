@@ -3,6 +3,7 @@ pub mod Parts
 pub mod Below
 pub mod RowsInWords
 pub mod Stepping
+pub mod OneSearch
 pub mod BitsOfWords
 pub mod CodeBytes
 pub mod ByteSets

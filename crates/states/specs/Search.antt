@@ -56,14 +56,14 @@ pub record Exceeded (codes words : List ℕ) : Type 0 where
   pub byte : IsByte by
   pub new : (j : ℕ) → j < mostStates → rowAt words j ≡ stepFrom codes words row by → ⊥
 
--- the words before the codes that hold none of n rows, and no key of one but the first, which has none, are as before; where there are too
--- many rows, they fill their room
+-- the words before the codes that n rows and their keys do not take are as before, and so is the one for the key of the first row, which
+-- has none; for 513, too many, no others are left
 pub record Untouched (before after : List ℕ) (n : ℕ) : Type 0 where
   pub rows : (k : ℕ) → n * 8 ≤ k → k < keysAt → getD after k 0 ≡ getD before k 0
   pub root : getD after keysAt 0 ≡ getD before keysAt 0
   pub keys : (k : ℕ) → keysAt + n ≤ k → k < codesAt → getD after k 0 ≡ getD before k 0
 
--- a search went on from n rows to the step before number t: r rows were found, or there are too many; the codes stay
+-- a search went on from n rows to the step before number t: r rows were found, or there are too many; all other words stay
 pub record Searched (positions : ℕ) (before after : List ℕ) (n t r : ℕ) : Type 0 where
   pub kept : drop codesAt after ≡ drop codesAt before
   pub untouched : Untouched before after r
@@ -71,7 +71,7 @@ pub record Searched (positions : ℕ) (before after : List ℕ) (n t r : ℕ) : 
   pub answer :
       ((r ≤ mostStates) × Partial (codesLaid positions before) after r t) ⊎ ((r ≡ suc mostStates) × Exceeded (codesLaid positions before) after)
 
--- a whole search: all r rows of a column, or there are too many; the codes and what lies behind them stay
+-- a whole search: all r rows of a column, or there are too many; all other words stay
 pub record Explores (codes before after : List ℕ) (r : ℕ) : Type 0 where
   pub kept : drop codesAt after ≡ drop codesAt before
   pub untouched : Untouched before after r

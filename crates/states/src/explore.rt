@@ -82,7 +82,8 @@ fn try_bytes(words: &mut [u64], positions: usize, i: usize, n: usize) -> usize
     found
 }
 
-// All states of the strings of a column, given the codes of its positions: how many there are, or 513 where they pass 512.
+// All states of the strings of a column, given the codes of its positions: how many there are, or 513 where they pass 512. Only the words
+// of their rows and keys change.
 pub fn explore(words: &mut [u64], positions: usize) -> usize
     requires { ⌜ Searchable positions (now words) ⌝ }
     ensures { λ r. ⌜ Explores (codesLaid positions (now (words .entry))) (now (words .entry)) (now (words .exit)) r ⌝ }
