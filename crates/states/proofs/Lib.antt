@@ -8,6 +8,7 @@ pub mod BitsOfWords
 pub mod CodeBytes
 pub mod ByteSets
 pub mod NamedBytes
+pub mod Followers
 pub mod MarkedBytes
 pub mod TakenRows
 pub mod Trying

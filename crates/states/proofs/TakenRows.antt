@@ -2,23 +2,20 @@
 -- bytes follow others, and a step by these rows is a step by the codes.
 use Prim.Native.Nat.{ℕ, suc, _+_, _-_, _*_, _/_, _≤_, _<_}
 use mathlib.Core.Path.{_≡_, refl, sym, _∙_, ap, ap₂, subst}
-use mathlib.Core.Bool.{Bool, true, false, _||_, false≢true}
 use mathlib.Core.List.{List, [], _∷_, _++_}
 use native.Mathlib.Omega.{arith}
-use lib.Dec.{eqb}
 use lib.ListN.{length, getD, take, drop, set, replicate, length-take, length-drop, length-set, length-append, length-replicate, getD-replicate, List·getD-append}
 use lib.Seq.{sets, length-sets, length-take-le, take-at, take-all, drop-at, drop-cons, take-set-le, drop-set-lt, drop-drop, getD-take, getD-drop, getD-append-add, getD-set-same, getD-set-other, ext-getD}
-use borrow.Author.Tests.{eqb-true}
-use Rattle.matching.specs.Rows.{rowBit, pack}
+use Rattle.matching.specs.Rows.{pack}
 use Rattle.matching.specs.Words.{takenBit, takenRow, starRow, wordsRow}
-use Rattle.matching.proofs.Rows.{upto, row-zero}
+use Rattle.matching.proofs.Rows.{upto}
 use Rattle.matching.proofs.ByWords.{step-by-words}
 use Rattle.matching.proofs.MarkedRows.{none-marked, mark-more, all-marked, taken-outside}
-use Rattle.states.specs.Rows.{printsAt, codesAt, takenAt, starsAt, followersAt, rowAt, codesLaid, IsByte, takenLaid, starsLaid, followersLaid}
-use Rattle.states.specs.Taken.{takes, Marks, RowsLaid, RowBefore, FollowersOf, FollowersSet, Takes, LaysTaken}
-use Rattle.states.specs.Bytes.{Adds}
+use Rattle.states.specs.Rows.{printsAt, codesAt, takenAt, starsAt, followersAt, followersEnd, rowAt, codesLaid, IsByte, takenLaid, starsLaid, followersLaid}
+use Rattle.states.specs.Taken.{takes, Marks, RowsLaid, FollowersOf, FollowersSet, Takes, LaysTaken}
 use Rattle.states.specs.Search.{stepFrom, Searchable}
 use Rattle.states.proofs.Parts.{part-kept, front-kept, sets-front, sets-behind}
+use Rattle.states.proofs.Followers.{followers-as}
 use Rattle.states.proofs.RowsInWords.{row-length, row-word, row-laid, row-kept}
 
 -- no more codes than positions
@@ -139,19 +136,6 @@ rows-whole positions words cleared after most r laid =
 
 -- the bytes that follow others
 
-pub followers-begin : (words : List ℕ) → FollowersOf words (replicate 2 0)
-followers-begin words b byte set = absurd (false≢true (sym (row-zero 2 b) ∙ set))
-
-pub followers-more : (words row more : List ℕ) (b : ℕ) → FollowersOf words row → Adds row (λ x. eqb x b) more → RowBefore words b → FollowersOf words more
-followers-more words row more b old adds before x byte set =
-    let high = byte .1 in
-    by (rowBit row x) (eqb x b) refl refl (sym (adds x (omega arith)) ∙ set)
-  where
-    by : (s t : Bool) → rowBit row x ≡ s → eqb x b ≡ t → (s || t) ≡ true → RowBefore words x
-    by true t e w here = old x byte e
-    by false true e w here = subst (RowBefore words) (sym (eqb-true x b w)) before
-    by false false e w here = absurd (false≢true here)
-
 -- two words laid down
 abbrev pub withPair : List ℕ → ℕ → List ℕ → List ℕ
 withPair words at row = set (set words at (getD row 0 0)) (at + 1) (getD row 1 0)
@@ -162,12 +146,12 @@ pair-at words at room =
     ap (take 2) (drop-cons words at 0 (omega arith) ∙ ap (λ (l : List ℕ). getD words at 0 ∷ l) (drop-cons words (suc at) 0 (omega arith)))
     ∙ ap (λ (k : ℕ). getD words at 0 ∷ getD words k 0 ∷ []) {x = suc at} {y = at + 1} (omega arith)
 
-pub followers-set : (words row : List ℕ) → printsAt ≤ length words → length row ≡ 2 → FollowersOf words row → FollowersSet words (withPair words 5880 row)
+pub followers-set : (words row : List ℕ) → printsAt ≤ length words → length row ≡ 2 → FollowersOf (takenLaid words) row → FollowersSet words (withPair words 5880 row)
 followers-set words row room two of =
     record {
-      follow = subst (FollowersOf words) (sym laid) of;
+      followers = subst (FollowersOf (takenLaid words)) (sym laid) of;
       front = take-set-le followersAt (set words 5880 first) 5881 second (omega arith) ∙ take-set-le followersAt words 5880 first (omega arith);
-      behind = drop-set-lt printsAt (set words 5880 first) 5881 second (omega arith) ∙ drop-set-lt printsAt words 5880 first (omega arith);
+      behind = drop-set-lt followersEnd (set words 5880 first) 5881 second (omega arith) ∙ drop-set-lt followersEnd words 5880 first (omega arith);
       same = long;
     }
   where
@@ -210,6 +194,14 @@ module _ (positions : ℕ) (before rows after stars : List ℕ) (most : position
       ∙ starred
       ∙ ap starRow (part-kept rows before takenAt codesAt positions (laid .front) (omega arith))
 
+  rest-last : drop followersEnd after ≡ drop followersEnd before
+  rest-last =
+      led .behind
+      ∙ sets-behind rows stars 5872 followersEnd (omega (arith, eight))
+      ∙ sym (drop-drop 10 starsAt rows)
+      ∙ ap (drop 10) (laid .behind)
+      ∙ drop-drop 10 starsAt before
+
   pub taken-laid : LaysTaken (codesLaid positions before) before after
   taken-laid =
       record {
@@ -219,20 +211,14 @@ module _ (positions : ℕ) (before rows after stars : List ℕ) (most : position
                   let high = byte .1 in
                   part-kept after (sets rows 5872 stars) followersAt ((607 + b) * 8) 8 (led .front) (omega arith) ∙ row-last b byte;
               stars = part-kept after (sets rows 5872 stars) followersAt (734 * 8) 8 (led .front) (omega arith) ∙ stars-last;
-              follow = λ b byte set.
-                  let a = led .follow b byte set in
-                  (a .0, a .1, a .2, sym (row-last (a .0) (a .1)) ∙ a .3 ∙ row-last b byte);
+              followers = followers-as (takenLaid (sets rows 5872 stars)) (takenRow (codesLaid positions before)) (followersLaid after) row-last (led .followers);
             };
         front =
             front-kept after (sets rows 5872 stars) followersAt takenAt (led .front) (omega arith)
             ∙ sets-front rows stars 5872 takenAt (omega arith)
             ∙ laid .front;
-        behind =
-            led .behind
-            ∙ sets-behind rows stars 5872 printsAt (omega (arith, eight))
-            ∙ sym (drop-drop 104 starsAt rows)
-            ∙ ap (drop 104) (laid .behind)
-            ∙ drop-drop 104 starsAt before;
+        rest = rest-last;
+        behind = sym (drop-drop 94 followersEnd after) ∙ ap (drop 94) rest-last ∙ drop-drop 94 followersEnd before;
         same = led .same ∙ length-sets rows 5872 stars ∙ laid .same;
       }
 
@@ -268,7 +254,7 @@ module _ (before after : List ℕ) (same : drop codesAt after ≡ drop codesAt b
             record {
               taken = λ b byte. let low = byte .0 in row-behind (607 + b) (omega arith) ∙ s .takes .taken b byte;
               stars = row-behind 734 (omega arith) ∙ s .takes .stars;
-              follow = λ b byte set. s .takes .follow b byte (ap (λ (row : List ℕ). rowBit row b) (sym followers-behind) ∙ set);
+              followers = subst (FollowersOf (takenRow (codesLaid positions before))) (sym followers-behind) (s .takes .followers);
             };
       }
 

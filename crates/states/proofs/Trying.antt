@@ -9,7 +9,7 @@ use native.Mathlib.Omega.{arith}
 use lib.ListN.{getD, List·getD-eq-default}
 use Rattle.matching.specs.Codes.{takesByte}
 use Rattle.matching.specs.Rows.{rowBit, stepRow}
-use Rattle.matching.specs.Words.{aheadRow}
+use Rattle.matching.specs.Words.{takenRow, aheadRow}
 use Rattle.matching.proofs.ByWords.{same-taken}
 use Rattle.matching.proofs.AlikeBytes.{same-ahead}
 use Rattle.states.specs.Rows.{rowAt, codesLaid, IsByte, followersLaid}
@@ -18,6 +18,7 @@ use Rattle.states.specs.Search.{Enough, Searchable, Partial}
 use Rattle.states.proofs.Below.{below-or-from}
 use Rattle.states.proofs.Stepping.{step-known}
 use Rattle.states.proofs.CodeBytes.{names-none}
+use Rattle.states.proofs.Followers.{follower-before}
 use Rattle.states.proofs.TakenRows.{codes-few, code-read}
 
 module _ (positions : ℕ) (words row named bytes : List ℕ) (s : Searchable positions words)
@@ -48,7 +49,7 @@ module _ (positions : ℕ) (words row named bytes : List ℕ) (s : Searchable po
       by : (rowBit (followersLaid words) x ≡ true) ⊎ ((rowBit named x ≡ false) × ((a : ℕ) × IsByte a × (a < x) × (rowBit named a ≡ false)))
           → (a : ℕ) × IsByte a × (a < x) × (stepRow codes a row ≡ stepRow codes x row)
       by (inl follows) =
-          let f = s .takes .follow x byte follows in
+          let f = follower-before (takenRow codes) (followersLaid words) (s .takes .followers) x byte follows in
           (f .0, f .1, f .2, same-taken codes row (f .0) x (omega (arith, s .most, codes-few positions words)) (f .3))
       by (inr (lacks, (a, byte-a, less, lacks-a))) =
           let high = byte .1 in (

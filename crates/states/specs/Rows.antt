@@ -2,6 +2,7 @@
 -- column's positions, a row of the positions that take each byte, one of those behind stars, and the set of those bytes that follow a
 -- smaller one, which is taken by the same positions.
 use Prim.Native.Nat.{ℕ, _+_, _*_, _≤_}
+use mathlib.Core.Bool.{Bool, true, false}
 use mathlib.Core.List.{List}
 use lib.ListN.{getD, take, drop}
 
@@ -31,7 +32,12 @@ codesLaid positions words = take positions (drop codesAt words)
 abbrev pub IsByte : ℕ → Type 0
 IsByte b = (0x21 ≤ b) × (b ≤ 0x7E)
 
--- where the rows of the bytes begin, the row of the stars, and the set of the bytes that follow others
+-- an answer that says whether P
+abbrev pub Tells : Bool → Type 0 → Type 0
+Tells true P = P
+Tells false P = P → ⊥
+
+-- where the rows of the bytes begin, the row of the stars, and the set of the bytes that follow others, and where that ends
 abbrev pub takenAt : ℕ
 takenAt = 5120
 
@@ -40,6 +46,9 @@ starsAt = 5872
 
 abbrev pub followersAt : ℕ
 followersAt = 5880
+
+abbrev pub followersEnd : ℕ
+followersEnd = 5882
 
 -- the row of a byte, the first byte's being number 640, and the row of the stars
 abbrev pub takenLaid : List ℕ → ℕ → List ℕ

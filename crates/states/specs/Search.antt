@@ -2,7 +2,7 @@
 -- the number of the step that found it.
 use Prim.Native.Nat.{ℕ, zero, suc, _+_, _*_, _/_, _%_, _≤_, _<_}
 use mathlib.Core.Path.{_≡_}
-use mathlib.Core.Bool.{Bool, true, false}
+use mathlib.Core.Bool.{false}
 use mathlib.Core.List.{List, [], _∷_}
 use mathlib.Core.Logic.{_⊎_}
 use lib.Dec.{eqb}
@@ -76,11 +76,6 @@ pub record Explores (codes before after : List ℕ) (r : ℕ) : Type 0 where
   pub kept : drop codesAt after ≡ drop codesAt before
   pub untouched : Untouched before after r
   pub answer : ((r ≤ mostStates) × Explored codes after r) ⊎ ((r ≡ suc mostStates) × Exceeded codes after)
-
--- an answer that says whether P
-abbrev pub Tells : Bool → Type 0 → Type 0
-Tells true P = P
-Tells false P = P → ⊥
 
 -- r is the lowest of n rows that is this one, or n
 pub record FirstAt (words : List ℕ) (n : ℕ) (row : List ℕ) (r : ℕ) : Type 0 where

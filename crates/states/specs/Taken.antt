@@ -1,7 +1,7 @@
 -- What the functions that lay down which positions take which byte promise each other.
-use Prim.Native.Nat.{ℕ, _+_, _*_, _/_, _%_, _^_, _<_}
+use Prim.Native.Nat.{ℕ, _+_, _-_, _*_, _/_, _%_, _^_, _≤_, _<_}
 use mathlib.Core.Path.{_≡_}
-use mathlib.Core.Bool.{Bool, true, _||_}
+use mathlib.Core.Bool.{Bool, _||_}
 use mathlib.Core.List.{List}
 use lib.Dec.{eqb}
 use lib.Bits.{bitOr}
@@ -9,7 +9,7 @@ use lib.ListN.{length, getD, take, drop, set}
 use Rattle.matching.specs.Codes.{oneCode, takesByte}
 use Rattle.matching.specs.Rows.{rowBit, markRow}
 use Rattle.matching.specs.Words.{takenRow, starRow}
-use Rattle.states.specs.Rows.{printsAt, IsByte, takenAt, starsAt, followersAt, takenLaid, starsLaid, followersLaid}
+use Rattle.states.specs.Rows.{printsAt, IsByte, Tells, takenAt, starsAt, followersAt, followersEnd, takenLaid, starsLaid, followersLaid}
 
 -- position p marked in row i
 abbrev pub markedAt : List ℕ → ℕ → ℕ → List ℕ
@@ -37,34 +37,35 @@ pub record RowsLaid (codes before after : List ℕ) : Type 0 where
   pub behind : drop starsAt after ≡ drop starsAt before
   pub same : length after ≡ length before
 
--- a smaller byte has the same row
-abbrev pub RowBefore : List ℕ → ℕ → Type 0
-RowBefore words b = (a : ℕ) × IsByte a × (a < b) × (takenLaid words a ≡ takenLaid words b)
+-- a small letter follows its capital where both have the same row
+abbrev pub IsFollower : (ℕ → List ℕ) → ℕ → Type 0
+IsFollower row b = (0x61 ≤ b) × (b ≤ 0x7A) × (row (b - 32) ≡ row b)
 
--- each byte of a set has the same row as a smaller one
-abbrev pub FollowersOf : List ℕ → List ℕ → Type 0
-FollowersOf words set = (b : ℕ) → IsByte b → rowBit set b ≡ true → RowBefore words b
+-- a set has those that follow, and no other byte
+abbrev pub FollowersOf : (ℕ → List ℕ) → List ℕ → Type 0
+FollowersOf row set = (x : ℕ) → x < 128 → Tells (rowBit set x) (IsFollower row x)
+
+-- it has those below a bound
+abbrev pub FollowersBelow : (ℕ → List ℕ) → ℕ → List ℕ → Type 0
+FollowersBelow row bound set = (x : ℕ) → x < 128 → Tells (rowBit set x) ((x < bound) × IsFollower row x)
 
 -- such a set was laid down; what is before and behind it stays
 pub record FollowersSet (before after : List ℕ) : Type 0 where
-  pub follow : FollowersOf before (followersLaid after)
+  pub followers : FollowersOf (takenLaid before) (followersLaid after)
   pub front : take followersAt after ≡ take followersAt before
-  pub behind : drop printsAt after ≡ drop printsAt before
+  pub behind : drop followersEnd after ≡ drop followersEnd before
   pub same : length after ≡ length before
-
--- a smaller byte is taken by the same positions
-abbrev pub Follows : List ℕ → ℕ → Type 0
-Follows codes b = (a : ℕ) × IsByte a × (a < b) × (takenRow codes a ≡ takenRow codes b)
 
 -- which positions take a byte, which stand behind a star, and which bytes follow others, for these codes
 pub record Takes (codes words : List ℕ) : Type 0 where
   pub taken : TakenLaid codes words
   pub stars : starsLaid words ≡ starRow codes
-  pub follow : (b : ℕ) → IsByte b → rowBit (followersLaid words) b ≡ true → Follows codes b
+  pub followers : FollowersOf (takenRow codes) (followersLaid words)
 
--- all of this was laid down; what is before and behind it stays
+-- all of this was laid down; what is before and behind it stays, the footprints too
 pub record LaysTaken (codes before after : List ℕ) : Type 0 where
   pub takes : Takes codes after
   pub front : take takenAt after ≡ take takenAt before
+  pub rest : drop followersEnd after ≡ drop followersEnd before
   pub behind : drop printsAt after ≡ drop printsAt before
   pub same : length after ≡ length before

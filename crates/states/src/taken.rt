@@ -21,8 +21,8 @@ ghost use Prim.Native.Nat.{_+_, _*_, _≤_, _<_};
 ghost use lib.Dec.{eqb};
 ghost use lib.ListN.{length};
 ghost use Rattle.matching.specs.Symbols.{foldByte};
-ghost use Rattle.states.specs.Rows.{printsAt, starsAt, IsByte, codesLaid};
-ghost use Rattle.states.specs.Taken.{markedAt, takes, Marks, RowsLaid, FollowersOf, FollowersSet, LaysTaken};
+ghost use Rattle.states.specs.Rows.{printsAt, starsAt, takenLaid, codesLaid};
+ghost use Rattle.states.specs.Taken.{markedAt, takes, Marks, RowsLaid, FollowersOf, FollowersBelow, FollowersSet, LaysTaken};
 
 // Marks position p in row i.
 fn mark_at(words: &mut [u64], i: usize, p: usize)
@@ -116,10 +116,10 @@ fn lay_rows(words: &mut [u64], positions: usize)
     }
 }
 
-// A set of followers, and byte b more where the byte 32 before it has the same row: a small letter follows its capital.
+// The small letters before b that follow their capitals, and b more where it does: where the byte 32 before it has the same row.
 fn with_follower(words: &[u64], set: [u64; 2], b: u8) -> [u64; 2]
-    requires { ⌜ (starsAt ≤ length (now words)) × (0x41 ≤ b) × IsByte b × FollowersOf (now words) set ⌝ }
-    ensures { λ r. ⌜ FollowersOf (now (words .entry)) r ⌝ }
+    requires { ⌜ (starsAt ≤ length (now words)) × (0x61 ≤ b) × (b ≤ 0x7A) × FollowersBelow (takenLaid (now words)) b set ⌝ }
+    ensures { λ r. ⌜ FollowersBelow (takenLaid (now (words .entry))) (b + 1) r ⌝ }
 {
     let row = row_at(words, TAKEN_ROW + b as usize);
     if is_row(words, TAKEN_ROW + (b - 32) as usize, row) {
@@ -131,7 +131,7 @@ fn with_follower(words: &[u64], set: [u64; 2], b: u8) -> [u64; 2]
 // The small letters that are taken by the same positions as their capitals.
 fn followers_of(words: &[u64]) -> [u64; 2]
     requires { ⌜ starsAt ≤ length (now words) ⌝ }
-    ensures { λ r. ⌜ FollowersOf (now (words .entry)) r ⌝ }
+    ensures { λ r. ⌜ FollowersOf (takenLaid (now (words .entry))) r ⌝ }
 {
     let mut set = [0u64; 2];
     let mut b: u8 = b'a';

@@ -1,11 +1,9 @@
--- Where the two rows are one, the byte follows the other; else nothing is added.
+-- Where the two rows are one, the byte follows its capital; else it does not, and nothing is added.
 use Prim.Native.Nat.{_+_, _-_}
-use mathlib.Core.Path.{_≡_, _∙_, subst}
+use mathlib.Core.Path.{_≡_, sym, _∙_, subst}
 use mathlib.Core.Bool.{Bool}
-use native.Mathlib.Omega.{arith}
-use Rattle.states.specs.Rows.{rowAt}
-use Rattle.states.specs.Search.{Tells}
-use Rattle.states.proofs.TakenRows.{followers-more}
+use Rattle.states.specs.Rows.{rowAt, takenLaid, Tells}
+use Rattle.states.proofs.Followers.{followers-more, followers-same}
 use borrow.Author.Needs.{needs}
 use Rattle.states.proofs.taken.with_follower.Statement.{statement}
 use Rattle.states.proofs.taken.with_follower.Tie as tie
@@ -38,11 +36,16 @@ returns c =
     let words = a .words .now in
     let row = c .before .before .before .row-at in
     let same = subst (λ (t : Bool). Tells t (rowAt words (607 + (a .b - 32)) ≡ row .result)) (c .before .if1 .taken) (c .before .before .is-row .ensures) in
-    followers-more words (a .set) (c .with-byte .result) (a .b) (h .3) (c .with-byte .ensures)
-    (a .b - 32, (omega arith, omega (arith, h .2 .1)), omega arith, same ∙ row .ensures)
+    followers-more (takenLaid words) (a .set) (a .b) (h .3) (c .with-byte .result) (c .with-byte .ensures) (h .1, h .2, same ∙ row .ensures)
 
 returns-2 : tie.Need-returns-2
-returns-2 c = c .before .before .before .before .pre .3
+returns-2 c =
+    let a = c .before .before .before .before .args in
+    let h = c .before .before .before .before .pre in
+    let words = a .words .now in
+    let row = c .before .before .row-at in
+    let other = subst (λ (t : Bool). Tells t (rowAt words (607 + (a .b - 32)) ≡ row .result)) (c .if1 .left) (c .before .is-row .ensures) in
+    followers-same (takenLaid words) (a .set) (a .b) (h .3) (λ is. other (is .2 ∙ sym (row .ensures)))
 
 pub with-follower-spec : {M : Type 1} → statement M
 with-follower-spec =
