@@ -1,7 +1,8 @@
--- The bits of words: what `|`, `&` and `!` make of them, the word of one bit, and the zeros below the lowest bit that is set.
+-- The bits of words: they make the word, what `|`, `&` and `!` make of them, the word of one bit, and the zeros below the lowest bit that
+-- is set.
 use Prim.Native.Nat.{ℕ, zero, suc, _+_, _-_, _*_, _/_, _%_, _^_, _≤_, _<_, min, max}
 use mathlib.Core.Path.{_≡_, refl, sym, _∙_, ap, subst}
-use mathlib.Core.Bool.{true, false, not, _&&_, _||_}
+use mathlib.Core.Bool.{true, false, not, _&&_, _||_, false≢true}
 use native.Mathlib.Nat.{pow-succ', div-one, zero-div, not-suc-le-zero, le-of-suc-le-suc}
 use native.Mathlib.Omega.{arith}
 use lib.Bits.{bitAnd, bitOr, and-step, or-step, and-shr, or-shr}
@@ -43,6 +44,27 @@ bit-and a b k =
 
 lowest : (word : ℕ) → wordBit word 0 ≡ eqb (word % 2) 1
 lowest word = ap (λ (n : ℕ). eqb (n % 2) 1) (div-one word)
+
+-- words whose bits agree are the same
+pub bits-same : (n a b : ℕ) → a < 2 ^ n → b < 2 ^ n → ((k : ℕ) → k < n → wordBit a k ≡ wordBit b k) → a ≡ b
+bits-same zero a b fits-a fits-b same = omega arith
+bits-same (suc n) a b fits-a fits-b same =
+    joined
+    (bits-same n (a / 2) (b / 2) (omega (arith, pow-succ' 2 n)) (omega (arith, pow-succ' 2 n))
+    (λ k low. sym (bit-behind a k) ∙ same (suc k) (omega arith) ∙ bit-behind b k))
+    (digit (a % 2) (b % 2) (omega arith) (omega arith) (sym (lowest a) ∙ same 0 (omega arith) ∙ lowest b))
+  where
+    joined : a / 2 ≡ b / 2 → a % 2 ≡ b % 2 → a ≡ b
+    joined halves last = omega arith
+
+    digit : (r s : ℕ) → r < 2 → s < 2 → eqb r 1 ≡ eqb s 1 → r ≡ s
+    digit zero zero low small e = refl
+    digit zero (suc zero) low small e = absurd (false≢true e)
+    digit (suc zero) zero low small e = absurd (false≢true (sym e))
+    digit (suc zero) (suc zero) low small e = refl
+    digit (suc (suc r)) s low small e = absurd (omega arith)
+    digit zero (suc (suc s)) low small e = absurd (omega arith)
+    digit (suc zero) (suc (suc s)) low small e = absurd (omega arith)
 
 -- a bit is 0 or 1
 turned : (r s : ℕ) → r < 2 → s ≡ 1 - r → eqb s 1 ≡ not (eqb r 1)

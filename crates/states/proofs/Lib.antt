@@ -14,3 +14,4 @@ pub mod TakenRows
 pub mod Trying
 pub mod StringsOfRows
 pub mod Clearing
+pub mod OneLaying

@@ -1,10 +1,14 @@
 -- The words of the workspace that a column is explored in, below 5,976: 512 rows of eight words, the key of each row, the codes of the
 -- column's positions, a row of the positions that take each byte, one of those behind stars, and the set of those bytes that follow a
 -- smaller one, which is taken by the same positions.
-use Prim.Native.Nat.{ℕ, _+_, _*_, _≤_}
+use Prim.Native.Nat.{ℕ, _+_, _*_, _^_, _≤_, _<_}
 use mathlib.Core.Bool.{Bool, true, false}
 use mathlib.Core.List.{List}
 use lib.ListN.{getD, take, drop}
+
+-- each word has 64 bits
+abbrev pub WordsFit : List ℕ → Type 0
+WordsFit words = (k : ℕ) → getD words k 0 < 2 ^ 64
 
 -- the room for rows, and where keys and codes begin
 abbrev pub mostStates : ℕ
