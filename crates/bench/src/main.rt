@@ -4,12 +4,9 @@ mod marked;
 
 use pairs::line::run_lines;
 
-// The text of the comparisons, and the two tables at hand.
 fn main() {
     let mut text = [0u8; 32768];
-    let mut first = [0u8; 4096];
-    let mut second = [0u8; 4096];
     let size = io::read_full(0, &mut text);
     marked::run_marked();
-    run_lines(&text[..size], &mut first, &mut second);
+    run_lines(&text[..size]);
 }

@@ -1,3 +1,5 @@
+// The numbers of column 7.
+
 // The column of addresses.
 pub const ADDRESSES: usize = 7;
 

@@ -64,6 +64,7 @@ printsAlong sides (prints ∷ more) rows k =
     let step = stepOf sides (prints ∷ more) rows k in
     step .print ∷ printsAlong sides more (bitAnd rows (step .print)) (step .left)
 
+-- the footprints in the workspace between two bounds, and those of a column: from its bound to the next one's
 abbrev pub printsBetween : List ℕ → ℕ → ℕ → List ℕ
 printsBetween words from to = take (to - from) (drop (printsAt + from) words)
 

@@ -4,12 +4,9 @@ mod alone;
 
 use pairs::line::run_lines;
 
-// The text of the cases, and the two tables at hand.
 fn main() {
     let mut text = [0u8; 131072];
-    let mut first = [0u8; 20000];
-    let mut second = [0u8; 20000];
     let size = io::read_full(0, &mut text);
-    run_lines(&text[..size], &mut first, &mut second);
+    run_lines(&text[..size]);
     alone::run_buffers();
 }

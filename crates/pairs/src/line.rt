@@ -8,6 +8,9 @@ use cases::text::first_bytes;
 use cases::text::part_of;
 use cases::text::place_of;
 
+// The room for a table, over the 16,384 bytes that one may have.
+const TABLE_ROOM: usize = 20000;
+
 // The sizes of the two tables at hand.
 struct Sizes {
     first: usize,
@@ -75,7 +78,9 @@ fn run_line(line: &[u8], first: &mut [u8], second: &mut [u8], sizes: Sizes) -> S
 }
 
 // Runs the lines of a text, one after the other.
-pub fn run_lines(text: &[u8], first: &mut [u8], second: &mut [u8]) {
+pub fn run_lines(text: &[u8]) {
+    let mut first = [0u8; TABLE_ROOM];
+    let mut second = [0u8; TABLE_ROOM];
     let mut sizes = Sizes {
         first: 0,
         second: 0,
@@ -83,7 +88,7 @@ pub fn run_lines(text: &[u8], first: &mut [u8], second: &mut [u8]) {
     let mut at: usize = 0;
     while at < text.len() {
         let end = behind_next(text, at, b'\n');
-        let next = run_line(&text[at..end], first, second, sizes);
+        let next = run_line(&text[at..end], &mut first, &mut second, sizes);
         sizes = next;
         at = end;
     }

@@ -65,6 +65,6 @@ starsLaid words = rowAt words 734
 abbrev pub followersLaid : List ℕ → List ℕ
 followersLaid words = take 2 (drop followersAt words)
 
--- the footprints of a column in the workspace, from word 5,976 on, between the column's bound and the next one's
+-- where the footprints of all columns begin
 abbrev pub printsAt : ℕ
 printsAt = 5976

@@ -61,7 +61,8 @@ pub(crate) fn is_row(words: &[u64], i: usize, row: [u64; 8]) -> bool
     true
 }
 
-// The last word of a row that is not zero, or the first: few rows agree in it.
+// The word by which a row is told from others first: the last one that is not zero, or the first, since few rows agree there. The search is
+// right whichever word it is.
 fn telling_word(row: [u64; 8]) -> usize
     ensures { λ r. ⌜ r < 8 ⌝ }
 {

@@ -27,6 +27,12 @@ part-run-line-start c = search needs
 part-run-line-end : tie.Need-part-run-line-end Inv-loop μ-loop
 part-run-line-end c = search needs
 
+slice-aggregate-run-line : tie.Need-slice-aggregate-run-line Inv-loop μ-loop
+slice-aggregate-run-line c = search needs
+
+slice-aggregate-run-line-2 : tie.Need-slice-aggregate-run-line-2 Inv-loop μ-loop
+slice-aggregate-run-line-2 c = search needs
+
 run-line-requires : tie.Need-run-line-requires Inv-loop μ-loop
 run-line-requires c κs = search needs
 
@@ -35,12 +41,6 @@ loop-less c = search needs
 
 loop-again : tie.Need-loop-again Inv-loop μ-loop
 loop-again c = search needs
-
-same-length : tie.Need-same-length Inv-loop μ-loop
-same-length c = search needs
-
-same-length-2 : tie.Need-same-length-2 Inv-loop μ-loop
-same-length-2 c = search needs
 
 returns : tie.Need-returns Inv-loop μ-loop
 returns c = search needs
@@ -56,9 +56,9 @@ run-lines-spec =
     sub-run-line
     part-run-line-start
     part-run-line-end
+    slice-aggregate-run-line
+    slice-aggregate-run-line-2
     run-line-requires
     loop-less
     loop-again
-    same-length
-    same-length-2
     returns)
