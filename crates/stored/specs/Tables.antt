@@ -2,7 +2,7 @@
 -- values and networks that these list.
 use Prim.Native.Nat.{ℕ}
 use mathlib.Core.List.{List, [], _∷_}
-use Rattle.stored.specs.Entries.{Entry}
+use Rattle.stored.specs.Entries.{Entry, entriesOf}
 use Rattle.stored.specs.Entries.Entry.{start, statement, column, condition, network, value, end}
 use Rattle.stored.specs.declared.items.Effect.{Effect}
 use Rattle.stored.specs.declared.items.Column.{Column}
@@ -76,3 +76,7 @@ gather (e ∷ es) = before e (gather es)
 -- the statements that entries make
 abbrev pub tableOf : List Entry → List Statement
 tableOf es = gather es .rows
+
+-- the statements of a table
+abbrev pub rowsOf : List ℕ → List Statement
+rowsOf t = tableOf (entriesOf t)
