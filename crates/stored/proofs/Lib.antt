@@ -10,6 +10,7 @@ pub mod Steps
 pub mod Turns
 pub mod Accepting
 pub mod Statements
+pub mod EntriesFor
 pub mod Numbers
 pub mod OneRecord
 pub mod Placing

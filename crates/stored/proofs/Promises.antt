@@ -21,6 +21,7 @@ use Rattle.stored.specs.declared.writer.WriteAnswer.the-variants as W
 use Rattle.stored.proofs.Accepting
 use Rattle.stored.proofs.Steps
 use Rattle.stored.proofs.Statements
+use Rattle.stored.proofs.EntriesFor
 use Rattle.stored.proofs.Numbers
 use Rattle.stored.proofs.RoundTrip
 
@@ -65,6 +66,11 @@ write-read = RoundTrip.write-read
 pub one-string : (first second : List ℕ) (m n : ℕ) → Bytes first → Bytes second
     → reading first ≡ A.Accepted m → reading second ≡ A.Accepted n → entriesOf first ≡ entriesOf second → first ≡ second
 one-string first second m n b c e f same = sym (accepted-whole first m b e) ∙ ap encode same ∙ accepted-whole second n c f
+
+-- Nothing of a table is lost in its statements: two tables that read with the same statements are the same bytes.
+pub nothing-lost : (first second : List ℕ) (m n : ℕ) → Bytes first → Bytes second
+    → reading first ≡ A.Accepted m → reading second ≡ A.Accepted n → rowsOf first ≡ rowsOf second → first ≡ second
+nothing-lost first second m n b c e f same = one-string first second m n b c e f (EntriesFor.same-entries first second m n e f same)
 
 -- A refusal of the reader has a number from 1 to 8 and a place of at most 16,384.
 pub refused-where : (table : List ℕ) (number place : ℕ) → reading table ≡ A.Refused number place
