@@ -15,4 +15,5 @@ pub mod Numbers
 pub mod OneRecord
 pub mod Placing
 pub mod RoundTrip
+pub mod SameRefusal
 pub mod Promises

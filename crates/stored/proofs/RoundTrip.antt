@@ -7,7 +7,7 @@ use mathlib.Core.List.{List, [], _∷_, _++_, append-assoc, append-nil}
 use native.Mathlib.Omega.{arith}
 use lib.Dec.{ltb}
 use lib.ListN.{length, take, drop, length-append, take-append-drop, drop-of-length-le}
-use lib.Seq.{sets, take-at, drop-drop, take-append-seam, drop-append-seam}
+use lib.Seq.{sets, take-at, drop-at, drop-drop, take-append-seam, drop-append-seam}
 use borrow.Author.Tests.{ltb-false}
 use Rattle.stored.specs.Choice.{pick}
 use Rattle.stored.specs.Records.{recordAt}
@@ -142,18 +142,26 @@ reads-back es last l d f short =
       r .1 ∙ ap (es ++_) (ends-cut t (length t) (past t (length t) (omega arith))) ∙ append-nil es,
     )
 
+-- what a fresh writer has written so far: the records of the entries that it took, from the buffer's first byte on
+pub so-far : (es : List Entry) (buffer : List ℕ) (last : Writer) (left : List ℕ) → Writes freshWriter buffer es last left
+    → (last .at ≡ length (encode es)) × (take (last .at) left ≡ encode es) × (drop (last .at) left ≡ drop (last .at) buffer)
+so-far es buffer last left h =
+    let k = written es freshWriter buffer last left h (omega arith) (omega arith) in
+    let place = k .place in
+    let size : length (encode es) ≡ last .at = omega arith in
+    let behind = drop (0 + length (encode es)) buffer in (
+      sym size,
+      ap (take (last .at)) (k .holds) ∙ take-at (encode es) behind (last .at) size,
+      ap (drop (last .at)) (k .holds) ∙ drop-at (encode es) behind (last .at) size ∙ ap (λ (n : ℕ). drop n buffer) (sym place),
+    )
+
 -- what a fresh writer has written, with the end as the last entry, reads back as the same entries
 pub read-write : (es : List Entry) (buffer : List ℕ) (last : Writer) (left : List ℕ) → Writes freshWriter buffer es last left
     → AllFit es → isEnded (last .state .phase) ≡ true
     → (reading (take (last .at) left) ≡ A.Accepted (last .state .rows)) × (entriesOf (take (last .at) left) ≡ es)
 read-write es buffer last left h f d =
     let k = written es freshWriter buffer last left h (omega arith) (omega arith) in
-    let place = k .place in
-    let short = k .short in
-    let size : length (encode es) ≡ last .at = omega arith in
-    let bytes : take (last .at) left ≡ encode es
-    = ap (take (last .at)) (k .holds) ∙ take-at (encode es) (drop (0 + length (encode es)) buffer) (last .at) size in
-    rw bytes (reads-back es (last .state) (k .leads) d f (omega arith))
+    rw (so-far es buffer last left h .1) (reads-back es (last .state) (k .leads) d f (omega arith))
 
 -- an end that is taken last ends the table
 pub ends : (es : List Entry) (w : Writer) (buffer : List ℕ) (last : Writer) (left : List ℕ)
