@@ -52,7 +52,7 @@ reads-turn es last l fit e has rest t at whole here short =
     let turn : admitItem last (itemOf e) (take n (drop (at + 1) t)) ≡ admit last e
     = sym (same-admit last (itemOf e) (take n (drop (at + 1) t))) ∙ ap (admit last) again in (
       begins t short ∙ passed .0 ∙ after t last at (omega arith)
-      ∙ ap (afterStep (readFrom (length t - at) t) at) (turns last t at (itemOf e) (at + 1) n found ∙ ap (afterTurn (endOf e at)) turn),
+          ∙ ap (afterStep (readFrom (length t - at) t) at) (turns last t at (itemOf e) (at + 1) n found ∙ ap (afterTurn (endOf e at)) turn),
       lies .1,
     )
 
