@@ -58,7 +58,7 @@ ended-takes P.Resources e left k = never (cc)
 ended-takes P.Conditions e left k = never (cc)
 ended-takes P.Ended e left k = refl
 
-ended-none : (es : List Entry) (s last : State) → Leads s es last → isEnded (s .phase) ≡ true → es ≡ []
+pub ended-none : (es : List Entry) (s last : State) → Leads s es last → isEnded (s .phase) ≡ true → es ≡ []
 ended-none [] s last l e = refl
 ended-none (x ∷ es) s last l e =
     let k = took s x (l .0) (l .1) .0 in

@@ -11,6 +11,7 @@ pub mod Turns
 pub mod Accepting
 pub mod Statements
 pub mod EntriesFor
+pub mod SoundValues
 pub mod Numbers
 pub mod OneRecord
 pub mod Placing

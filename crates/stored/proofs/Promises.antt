@@ -14,7 +14,7 @@ use Rattle.stored.specs.Reading.{reading}
 use Rattle.stored.specs.Writing.{freshWriter, recordOf, writing}
 use Rattle.stored.specs.Entries.{Entry, itemOf, bytesOf, encode, entriesOf, Bytes, AllFit, HasRecord, Writes}
 use Rattle.stored.specs.Entries.Entry.{end}
-use Rattle.stored.specs.Tables.{Statement, rowsOf, WellFormed}
+use Rattle.stored.specs.Tables.{Statement, rowsOf, WellFormed, SoundStatement}
 use Rattle.stored.specs.declared.items.Item.{Item}
 use Rattle.stored.specs.declared.items.Item.the-variants as I
 use Rattle.stored.specs.declared.records.Kind.the-variants as K
@@ -25,6 +25,7 @@ use Rattle.stored.proofs.Accepting
 use Rattle.stored.proofs.Steps
 use Rattle.stored.proofs.Statements
 use Rattle.stored.proofs.EntriesFor
+use Rattle.stored.proofs.SoundValues
 use Rattle.stored.proofs.Numbers
 use Rattle.stored.proofs.RoundTrip
 use Rattle.stored.proofs.SameRefusal
@@ -57,6 +58,11 @@ three-elements table n e = (
   rw (Accepting.counted table n e) (Accepting.few table n e),
   Statements.well-formed table n e,
 )
+
+-- "1 to 4 go with keys 0 to 3 and values, 5 and 6 with key 4 and networks", and what 6, 7 and 8 refuse stands in no table that reads: its
+-- elements list texts of 1 to 128 bytes, a principal is `*` alone or has neither `*` nor `?`, and its conditions list what their key holds.
+pub sound-values : (table : List ℕ) (n : ℕ) → reading table ≡ A.Accepted n → (s : Statement) → In s (rowsOf table) → SoundStatement s
+sound-values = SoundValues.sound
 
 -- A table that reads is `encode` of its entries, and a fresh writer given them writes just those bytes, into any buffer that has room
 -- for them, and changes no other byte.
