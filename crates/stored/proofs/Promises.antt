@@ -100,7 +100,7 @@ pub refused-where : (table : List ℕ) (number place : ℕ) → reading table �
     → (0 < number) × (number ≤ 8) × (place ≤ 16384)
 refused-where = Numbers.refused-where
 
--- "1: table over 16,384 bytes", at 16,384.
+-- 1 is given for a "table over 16,384 bytes", at 16,384.
 pub refused-long : (table : List ℕ) → 16384 < length table → reading table ≡ A.Refused 1 16384
 refused-long = Steps.too-long
 
@@ -132,8 +132,8 @@ pub writer-as-reader : (es : List Entry) (buffer : List ℕ) (w : Writer) (left 
     ↔ (reading (encode es ++ (recordOf (itemOf e) (bytesOf e) ++ rest)) ≡ A.Refused number (w .at))
 writer-as-reader = SameRefusal.writer-as-reader
 
--- "6: .. to the writer also a value of no bytes or over 128", which has no record: it is refused with the number that its kind alone
--- decides there, `dueOf`, and with 6 where that is none.
+-- 6 is given "to the writer also" for "a value of no bytes or over 128", which has no record: it is refused with the number that its kind
+-- alone decides there, `dueOf`, and with 6 where that is none.
 pub writer-no-record : (w : Writer) (bytes : List ℕ) (room : ℕ) → (length bytes ≡ 0) ⊎ (128 < length bytes)
     → writing w I.Value bytes room
     ≡ W.Refused (pick (eqb (dueOf (w .state) (K.Value (length bytes))) 0) 6 (dueOf (w .state) (K.Value (length bytes)))) (w .at)
