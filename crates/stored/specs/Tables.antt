@@ -1,5 +1,5 @@
 -- A table as data, so that the crates above can say what it means: statements with their effect, elements and conditions, and the
--- values and networks that these list.
+-- values and networks that these list; the entries that statements stand for; and what the stored form asks of a statement.
 use Prim.Native.Nat.{ℕ, _+_, _≤_, _<_}
 use mathlib.Core.Path.{_≡_}
 use mathlib.Core.List.{List, [], _∷_}
