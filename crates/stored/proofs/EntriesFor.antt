@@ -10,7 +10,8 @@ use Rattle.stored.specs.Machine.{isEnded, takesKind, columnPhase, counte
 use Rattle.stored.specs.Reading.{reading}
 use Rattle.stored.specs.Entries.{Entry, itemOf, bytesOf, entriesOf}
 use Rattle.stored.specs.Entries.Entry.{start, statement, column, condition, network, value, end}
-use Rattle.stored.specs.Tables.{Part, gather, tableOf, rowsOf, listedFor, elementsFor, conditionsFor, statementsFor, entriesFor}
+use Rattle.stored.specs.Tables.{Part, gather, tableOf, rowsOf}
+use Rattle.stored.specs.Form.{listedFor, elementsFor, conditionsFor, statementsFor, entriesFor}
 use Rattle.stored.specs.declared.items.Sort.the-variants as O
 use Rattle.stored.specs.declared.records.Kind.{Kind}
 use Rattle.stored.specs.declared.machine.Phase.{Phase}

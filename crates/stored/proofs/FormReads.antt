@@ -19,7 +19,8 @@ use Rattle.stored.specs.Reading.{reading}
 use Rattle.stored.specs.Entries.{Entry, encode, AllFit}
 use Rattle.stored.specs.machinery.Following.{admit}
 use Rattle.stored.specs.Entries.Entry.{start, statement, column, condition, network, value, end}
-use Rattle.stored.specs.Tables.{Listed, Element, Condition, Statement, Part, before, gather, tableOf, rowsOf, listedFor, elementsFor, conditionsFor, statementsFor, entriesFor, placesOf, elementsList, conditionsList, WellFormed, MayHold, IsPrincipal, SoundElement, SoundCondition, SoundStatement}
+use Rattle.stored.specs.Tables.{Listed, Element, Condition, Statement, Part, before, gather, tableOf, rowsOf}
+use Rattle.stored.specs.Form.{listedFor, elementsFor, conditionsFor, statementsFor, entriesFor, placesOf, elementsList, conditionsList, WellFormed, MayHold, IsPrincipal, SoundElement, SoundCondition, SoundStatement}
 use Rattle.stored.specs.Tables.Listed.{text, range}
 use Rattle.stored.specs.declared.items.Column.{Column}
 use Rattle.stored.specs.declared.items.Column.the-variants as C

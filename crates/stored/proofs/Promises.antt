@@ -14,7 +14,8 @@ use Rattle.stored.specs.Reading.{reading}
 use Rattle.stored.specs.Writing.{freshWriter, recordOf, writing}
 use Rattle.stored.specs.Entries.{Entry, itemOf, bytesOf, encode, entriesOf, Bytes, AllFit, HasRecord, Writes}
 use Rattle.stored.specs.Entries.Entry.{end}
-use Rattle.stored.specs.Tables.{Statement, rowsOf, entriesFor, WellFormed, SoundStatement}
+use Rattle.stored.specs.Tables.{Statement, rowsOf}
+use Rattle.stored.specs.Form.{entriesFor, WellFormed, SoundStatement}
 use Rattle.stored.specs.declared.items.Item.{Item}
 use Rattle.stored.specs.declared.items.Item.the-variants as I
 use Rattle.stored.specs.declared.records.Kind.the-variants as K

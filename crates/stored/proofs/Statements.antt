@@ -15,7 +15,8 @@ use Rattle.stored.specs.Reading.{reading}
 use Rattle.stored.specs.Entries.{Entry, itemOf, bytesOf, entriesOf}
 use Rattle.stored.specs.machinery.Following.{admit}
 use Rattle.stored.specs.Entries.Entry.{start, statement, column, condition, network, value, end}
-use Rattle.stored.specs.Tables.{Listed, Element, Condition, Statement, Part, gather, tableOf, rowsOf, placesOf, elementsList, conditionsList, WellFormed}
+use Rattle.stored.specs.Tables.{Listed, Element, Condition, Statement, Part, gather, tableOf, rowsOf}
+use Rattle.stored.specs.Form.{placesOf, elementsList, conditionsList, WellFormed}
 use Rattle.stored.specs.Tables.Listed.{text, range}
 use Rattle.stored.specs.declared.items.Column.{Column}
 use Rattle.stored.specs.declared.items.Column.the-variants as C

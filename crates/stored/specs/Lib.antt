@@ -11,4 +11,5 @@ pub mod Reading
 pub mod Writing
 pub mod Entries
 pub mod Tables
+pub mod Form
 pub mod machinery
