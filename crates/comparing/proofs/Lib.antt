@@ -13,8 +13,10 @@ pub mod Deciding
 pub mod Admitting
 pub mod NoValues
 pub mod Pigeonhole
-pub mod Refusals
+pub mod Lowest
 pub mod OneAnswer
 pub mod GapList
 pub mod ShownRequest
+pub mod ShortValues
+pub mod Outcomes
 pub mod Promises

@@ -16,7 +16,7 @@ use Rattle.matching.specs.Codes.{codesOf}
 use Rattle.matching.specs.Rows.{rowOf}
 use Rattle.matching.specs.State.{stateOf}
 use Rattle.matching.specs.declared.reading.Reading.{Reading}
-use Rattle.judging.specs.Requests.{Value, text, columns}
+use Rattle.judging.specs.Requests.{Value, text}
 use Rattle.judging.specs.Meaning.{isAllowed}
 use Rattle.judging.specs.Judging.{rowsOf, judgement}
 use Rattle.judging.specs.declared.judge.Judgement.the-variants as J
@@ -27,16 +27,16 @@ use Rattle.comparing.specs.Order.{Before, Earlier, In}
 use Rattle.comparing.specs.Requests.{IsRequest}
 use Rattle.comparing.specs.Gaps.{footprint, AlikeFrom, Gaps, Counted, IsGap}
 use Rattle.comparing.specs.Columns.{States}
-use Rattle.comparing.specs.Compared.{workspaceWords, mostKinds, firstWide, Crowded, Uncrowded, CountsFrom, product, Compared, Shown}
+use Rattle.comparing.specs.Compared.{Compared, Shown}
+use Rattle.comparing.specs.Outcomes.{orderOf, CountOutcome, GapOutcome}
 use Rattle.comparing.specs.declared.answers.Counting.{Counting}
-use Rattle.comparing.specs.declared.answers.Counting.the-variants as C
 use Rattle.comparing.specs.declared.answers.Showing.{Showing}
 use Rattle.comparing.proofs.Deciding
 use Rattle.comparing.proofs.AllStates
 use Rattle.comparing.proofs.Exploring
 use Rattle.comparing.proofs.GapList
 use Rattle.comparing.proofs.OneAnswer
-use Rattle.comparing.proofs.Refusals
+use Rattle.comparing.proofs.Outcomes
 
 -- Strings with the same state have the same footprint.
 pub state-decides : (first second : List Statement) (column : ℕ) (s u : List ℕ)
@@ -95,30 +95,23 @@ pub one-answer-shown : (k : ℕ) (buffer : List ℕ) (room : ℕ) (a b : List �
     → Shown room a b k buffer r → Shown room a b k buffer s → r ≡ s
 one-answer-shown = OneAnswer.shown-one
 
--- 10, 11 and 12 are given exactly when the stated count passes its limit, in the stated order, for tables that read and a workspace that
--- is long enough; else the answer is the number of gaps.
-module _ (room : ℕ) (a b : List ℕ) (long : workspaceWords ≤ room) (m n : ℕ) (first : reading a ≡ A.Accepted m) (second : reading b ≡ A.Accepted n)
-  where
-    pub refused-10-exactly : (c : ℕ) → Compared room a b (C.Refused 10 0 c) ↔ ((firstWide (rowsOf a ++ rowsOf b) ≡ c) × (c < columns))
-    refused-10-exactly = Refusals.refused-10 room a b long m n first second
+-- "Numbers for no" and "Order. Comparing: 14, first table, second table (the answer says which), 10 by column, 11 by column, 12, 13, 15":
+-- of every workspace size and pair of byte strings the comparison answers just what a case of `CountOutcome` says: each refusal is given
+-- exactly when its case holds, with its number, table and place, and else the number of gaps is.
+pub refused-exactly : (room : ℕ) (a b : List ℕ) (r : Counting) → Compared room a b r ↔ CountOutcome room a b r
+refused-exactly = Outcomes.compared-exactly
 
-    pub refused-11-exactly : (c : ℕ)
-        → Compared room a b (C.Refused 11 0 c) ↔ ((firstWide (rowsOf a ++ rowsOf b) ≡ columns) × Crowded (rowsOf a ++ rowsOf b) c)
-    refused-11-exactly = Refusals.refused-11 room a b long m n first second
+-- Any two cases that hold are the same case, with the same answer.
+pub one-outcome : (room : ℕ) (a b : List ℕ) (r s : Counting) (x : CountOutcome room a b r) (y : CountOutcome room a b s)
+    → (r ≡ s) × (orderOf x ≡ orderOf y)
+one-outcome = Outcomes.count-outcome-one
 
-    pub refused-12-exactly : Compared room a b (C.Refused 12 0 0)
-        ↔ ((counts : List ℕ)
-        × (firstWide (rowsOf a ++ rowsOf b) ≡ columns)
-        × Uncrowded (rowsOf a ++ rowsOf b)
-        × CountsFrom (rowsOf a) (rowsOf b) 0 counts
-        × (mostKinds < product counts))
-    refused-12-exactly = Refusals.refused-12 room a b long m n first second
+-- The same of the question for a gap. No case is 15: it is never given.
+pub refused-exactly-shown : (k : ℕ) (buffer : List ℕ) (room : ℕ) (a b : List ℕ) (r : Showing × List ℕ)
+    → Shown room a b k buffer r ↔ GapOutcome room a b k buffer r
+refused-exactly-shown = Outcomes.shown-exactly
 
-    pub answered-exactly : (k : ℕ) → Compared room a b (C.Gaps k)
-        ↔ ((counts : List ℕ)
-        × (firstWide (rowsOf a ++ rowsOf b) ≡ columns)
-        × Uncrowded (rowsOf a ++ rowsOf b)
-        × CountsFrom (rowsOf a) (rowsOf b) 0 counts
-        × (product counts ≤ mostKinds)
-        × Counted (rowsOf a) (rowsOf b) k)
-    answered-exactly = Refusals.answered-gaps room a b long m n first second
+pub one-outcome-shown : (k : ℕ) (buffer : List ℕ) (room : ℕ) (a b : List ℕ) (r s : Showing × List ℕ)
+    (x : GapOutcome room a b k buffer r) (y : GapOutcome room a b k buffer s)
+    → (r ≡ s) × (orderOf x ≡ orderOf y)
+one-outcome-shown = Outcomes.gap-outcome-one
