@@ -2,6 +2,7 @@
 pub mod Order
 pub mod Members
 pub mod Unique
+pub mod Eight
 pub mod Alike
 pub mod Product
 pub mod Judged
@@ -19,4 +20,5 @@ pub mod GapList
 pub mod ShownRequest
 pub mod ShortValues
 pub mod Outcomes
+pub mod Means
 pub mod Promises
