@@ -21,4 +21,5 @@ pub mod ShownRequest
 pub mod ShortValues
 pub mod Outcomes
 pub mod Means
+pub mod Requests
 pub mod Promises
