@@ -22,4 +22,5 @@ pub mod ShortValues
 pub mod Outcomes
 pub mod Means
 pub mod Requests
+pub mod SearchPromises
 pub mod Promises

@@ -18,7 +18,7 @@ use Rattle.judging.specs.Requests.{Value, columns}
 use Rattle.judging.specs.Judging.{rowsOf}
 use Rattle.comparing.specs.Gaps.{Counted, IsGap}
 use Rattle.comparing.specs.Compared.{workspaceWords, valueBytes, mostKinds, firstWide, Uncrowded, product, FromKinds, FromStates, FromWidths, FromTables, Answered, IsCount, Compared, laid, firstLong, shapeOf, keeps, IsShown, IsAnswer, Shown}
-use Rattle.comparing.specs.Outcomes.{NoneWide, Comparable, WithinColumns, Outcome, short, firstTable, secondTable, wide, crowded, manyKinds, answered, orderOf, CountOutcome, GapAnswer, behind, shows, GapOutcome}
+use Rattle.comparing.specs.Outcomes.{NoneWide, Comparable, WithinColumns, Outcome, short, firstTable, secondTable, wide, crowded, manyKinds, answered, orderOf, CountOutcome, orderOfCount, GapAnswer, behind, shows, orderOfAnswer, GapOutcome, orderOfGap}
 use Rattle.comparing.specs.declared.answers.Counting.{Counting}
 use Rattle.comparing.specs.declared.answers.Counting.the-variants as C
 use Rattle.comparing.specs.declared.answers.Showing.{Showing}
@@ -118,15 +118,15 @@ orderOfRefusal n table =
 -- an answer shows which case it comes from
 module _ {R : Type 0} (Short : Type 0) (no : ℕ → ℕ → ℕ → R) (Answer : List Statement → List Statement → R → Type 0) (a b : List ℕ)
     (orderIn : R → ℕ) (refusal : (n table place : ℕ) → orderIn (no n table place) ≡ orderOfRefusal n table)
-    (last : (first second : List Statement) (r : R) → Answer first second r → orderIn r ≡ 6) where
-  pub order-shown : (r : R) (x : Outcome Short no Answer a b r) → orderOf x ≡ orderIn r
-  order-shown r (short s e) = sym (ap orderIn e ∙ refusal 14 0 0)
-  order-shown r (firstTable long n place f e) = sym (ap orderIn e ∙ refusal n 1 place)
-  order-shown r (secondTable long table n place f e) = sym (ap orderIn e ∙ refusal n 2 place)
-  order-shown r (wide both c w e) = sym (ap orderIn e ∙ refusal 10 0 c)
-  order-shown r (crowded both narrow c k e) = sym (ap orderIn e ∙ refusal 11 0 c)
-  order-shown r (manyKinds both counts passed over e) = sym (ap orderIn e ∙ refusal 12 0 0)
-  order-shown r (answered both counts passed within answer) = sym (last (rowsOf a) (rowsOf b) r answer)
+    (r : R) (last : Answer (rowsOf a) (rowsOf b) r → ℕ) (answer : (x : Answer (rowsOf a) (rowsOf b) r) → last x ≡ orderIn r) where
+  pub order-shown : (x : Outcome Short no Answer a b r) → orderOf last x ≡ orderIn r
+  order-shown (short s e) = sym (ap orderIn e ∙ refusal 14 0 0)
+  order-shown (firstTable long n place f e) = sym (ap orderIn e ∙ refusal n 1 place)
+  order-shown (secondTable long table n place f e) = sym (ap orderIn e ∙ refusal n 2 place)
+  order-shown (wide both c w e) = sym (ap orderIn e ∙ refusal 10 0 c)
+  order-shown (crowded both narrow c k e) = sym (ap orderIn e ∙ refusal 11 0 c)
+  order-shown (manyKinds both counts passed over e) = sym (ap orderIn e ∙ refusal 12 0 0)
+  order-shown (answered both counts passed within x) = answer x
 
 -- the comparison
 count-short : (room : ℕ) → pick (ltb room workspaceWords) (room < workspaceWords) (room < workspaceWords → ⊥)
@@ -143,19 +143,19 @@ compared-exactly room a b r = (
 )
 
 abbrev orderInCount : Counting → ℕ
-orderInCount (C.Gaps n) = 6
+orderInCount (C.Gaps n) = 7
 orderInCount (C.Refused n table place) = orderOfRefusal n table
 
 pub count-outcome-one : (room : ℕ) (a b : List ℕ) (r s : Counting) (x : CountOutcome room a b r) (y : CountOutcome room a b s)
-    → (r ≡ s) × (orderOf x ≡ orderOf y)
+    → (r ≡ s) × (orderOfCount x ≡ orderOfCount y)
 count-outcome-one room a b r s x y =
     let same = compared-one room a b r s (compared-exactly room a b r .1 x) (compared-exactly room a b s .1 y) in
     (same, order r x ∙ ap orderInCount same ∙ sym (order s y))
   where
-    order : (r : Counting) (x : CountOutcome room a b r) → orderOf x ≡ orderInCount r
-    order =
-        order-shown (room < workspaceWords) C.Refused IsCount a b orderInCount (λ n table place. refl)
-        (λ first second r is. ap orderInCount (is .2))
+    order : (r : Counting) (x : CountOutcome room a b r) → orderOfCount x ≡ orderInCount r
+    order r x =
+        order-shown (room < workspaceWords) C.Refused IsCount a b orderInCount (λ n table place. refl) r (λ is. 7)
+        (λ is. sym (ap orderInCount (is .2))) x
 
 -- the question for a gap
 module _ (k : ℕ) (buffer : List ℕ) where
@@ -207,18 +207,19 @@ module _ (k : ℕ) (buffer : List ℕ) where
     )
 
     abbrev orderInGap : Showing × List ℕ → ℕ
-    orderInGap (S.Shown shape, values) = 6
+    orderInGap (S.Shown shape, values) = 7
     orderInGap (S.Refused n table place, values) = orderOfRefusal n table
 
     pub gap-outcome-one : (a b : List ℕ) (r s : Showing × List ℕ) (x : GapOutcome room a b k buffer r) (y : GapOutcome room a b k buffer s)
-        → (r ≡ s) × (orderOf x ≡ orderOf y)
+        → (r ≡ s) × (orderOfGap x ≡ orderOfGap y)
     gap-outcome-one a b r s x y =
         let same = shown-one k buffer room a b r s (shown-exactly a b r .1 x) (shown-exactly a b s .1 y) in
         (same, order r x ∙ ap orderInGap same ∙ sym (order s y))
       where
-        last : (first second : List Statement) (r : Showing × List ℕ) → GapAnswer k buffer first second r → orderInGap r ≡ 6
-        last first second r (behind n counted high e) = ap orderInGap e
-        last first second r (shows n counted low request g e) = ap orderInGap e
+        last : (r : Showing × List ℕ) (x : GapAnswer k buffer (rowsOf a) (rowsOf b) r) → orderOfAnswer x ≡ orderInGap r
+        last r (behind n counted high e) = sym (ap orderInGap e)
+        last r (shows n counted low request g e) = sym (ap orderInGap e)
 
-        order : (r : Showing × List ℕ) (x : GapOutcome room a b k buffer r) → orderOf x ≡ orderInGap r
-        order = order-shown TooShort (keeps buffer) (GapAnswer k buffer) a b orderInGap (λ n table place. refl) last
+        order : (r : Showing × List ℕ) (x : GapOutcome room a b k buffer r) → orderOfGap x ≡ orderInGap r
+        order r x =
+            order-shown TooShort (keeps buffer) (GapAnswer k buffer) a b orderInGap (λ n table place. refl) r orderOfAnswer (last r) x

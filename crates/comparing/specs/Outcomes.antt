@@ -1,6 +1,6 @@
 -- The cases that a question about two tables can fall in, in the order in which they are tried: 14, first table, second table, 10 by
--- column, 11 by column, 12, then the answer; for a gap asked for 13, 15, then its values. Each case says what it is given for, in the words
--- of the table "Numbers for no", and that none of those before it is.
+-- column, 11 by column, 12, then the answer; to the question for a gap that is 13, or its values. Each case says what it is given for, in the
+-- words of "Numbers for no", and that none of those before it is. (15 is no case: it is never given.)
 use Prim.Native.Nat.{ℕ, _≤_, _<_}
 use mathlib.Core.Path.{_≡_}
 use mathlib.Core.Bool.{true, false}
@@ -67,20 +67,23 @@ pub data Outcome {R : Type 0} (Short : Type 0) (no : ℕ → ℕ → ℕ → R) 
   answered : Comparable Short a b → (counts : List ℕ) → WithinColumns (rowsOf a) (rowsOf b) counts → product counts ≤ mostKinds
       → Answer (rowsOf a) (rowsOf b) r → Outcome Short no Answer a b r
 
--- the place of a case in the order
+-- the place of a case in the order, given the place of its answer
 abbrev pub orderOf : {R Short : Type 0} {no : ℕ → ℕ → ℕ → R} {Answer : List Statement → List Statement → R → Type 0} {a b : List ℕ} {r : R}
-    → Outcome Short no Answer a b r → ℕ
-orderOf (short s e) = 0
-orderOf (firstTable l n place f e) = 1
-orderOf (secondTable l t n place f e) = 2
-orderOf (wide t c w e) = 3
-orderOf (crowded t none c k e) = 4
-orderOf (manyKinds t counts p over e) = 5
-orderOf (answered t counts p within answer) = 6
+    → (Answer (rowsOf a) (rowsOf b) r → ℕ) → Outcome Short no Answer a b r → ℕ
+orderOf last (short s e) = 0
+orderOf last (firstTable l n place f e) = 1
+orderOf last (secondTable l t n place f e) = 2
+orderOf last (wide t c w e) = 3
+orderOf last (crowded t none c k e) = 4
+orderOf last (manyKinds t counts p over e) = 5
+orderOf last (answered t counts p within answer) = last answer
 
 -- the cases of the comparison, with a workspace of so many words; its answer is the number of gaps
 abbrev pub CountOutcome : ℕ → List ℕ → List ℕ → Counting → Type 0
 CountOutcome room a b r = Outcome (room < workspaceWords) C.Refused IsCount a b r
+
+abbrev pub orderOfCount : {room : ℕ} {a b : List ℕ} {r : Counting} → CountOutcome room a b r → ℕ
+orderOfCount x = orderOf (λ is. 7) x
 
 -- the answers to the question for gap k, with the value buffer behind them
 pub data GapAnswer (k : ℕ) (buffer : List ℕ) (first second : List Statement) (r : Showing × List ℕ) : Type 0 where
@@ -94,3 +97,10 @@ pub data GapAnswer (k : ℕ) (buffer : List ℕ) (first second : List Statement)
 abbrev pub GapOutcome : ℕ → List ℕ → List ℕ → ℕ → List ℕ → Showing × List ℕ → Type 0
 GapOutcome room a b k buffer r =
     Outcome ((room < workspaceWords) ⊎ (length buffer < valueBytes)) (keeps buffer) (GapAnswer k buffer) a b r
+
+abbrev pub orderOfAnswer : {k : ℕ} {buffer : List ℕ} {first second : List Statement} {r : Showing × List ℕ} → GapAnswer k buffer first second r → ℕ
+orderOfAnswer (behind n counted high e) = 6
+orderOfAnswer (shows n counted low request gap e) = 7
+
+abbrev pub orderOfGap : {room : ℕ} {a b : List ℕ} {k : ℕ} {buffer : List ℕ} {r : Showing × List ℕ} → GapOutcome room a b k buffer r → ℕ
+orderOfGap x = orderOf orderOfAnswer x
