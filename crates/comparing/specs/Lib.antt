@@ -6,4 +6,6 @@ pub mod Gaps
 pub mod Counts
 pub mod Columns
 pub mod Compared
+pub mod Outcomes
+pub mod Means
 pub mod machinery
