@@ -1,0 +1,4 @@
+-- The comparison leaves no input without an answer: the laws for it.
+pub mod Pairs
+pub mod AllStrings
+pub mod OneOfEach
