@@ -2,3 +2,6 @@
 pub mod Pairs
 pub mod AllStrings
 pub mod OneOfEach
+pub mod FewOrMany
+pub mod FirstValues
+pub mod EveryColumn

@@ -89,33 +89,33 @@ of-length-ascending (suc n) = pairs-ascending _∷_ _<_ Sooner Sooner (ofLength 
     near b s u (inr (same, smaller)) = inr (ap suc same, inr (refl, smaller))
 
 -- the strings with m bytes or more, of n lengths
-abbrev pub strings : ℕ → ℕ → List (List ℕ)
-strings m zero = []
-strings m (suc n) = ofLength m ++ strings (suc m) n
+abbrev pub allStrings : ℕ → ℕ → List (List ℕ)
+allStrings m zero = []
+allStrings m (suc n) = ofLength m ++ allStrings (suc m) n
 
-pub in-strings : (m n : ℕ) (s : List ℕ) → In s (strings m n) → Ranged s × (m ≤ length s) × (length s < m + n)
-in-strings m zero s i = absurd i
-in-strings m (suc n) s i = by (in-joined s (ofLength m) (strings (suc m) n) i) (in-strings (suc m) n s)
+pub in-all-strings : (m n : ℕ) (s : List ℕ) → In s (allStrings m n) → Ranged s × (m ≤ length s) × (length s < m + n)
+in-all-strings m zero s i = absurd i
+in-all-strings m (suc n) s i = by (in-joined s (ofLength m) (allStrings (suc m) n) i) (in-all-strings (suc m) n s)
   where
-    by : In s (ofLength m) ⊎ In s (strings (suc m) n) → (In s (strings (suc m) n) → Ranged s × (suc m ≤ length s) × (length s < suc m + n))
+    by : In s (ofLength m) ⊎ In s (allStrings (suc m) n) → (In s (allStrings (suc m) n) → Ranged s × (suc m ≤ length s) × (length s < suc m + n))
         → Ranged s × (m ≤ length s) × (length s < m + suc n)
     by (inl j) rest = let h = in-of-length m s j in (h .0, omega (arith, h .1), omega (arith, h .1))
     by (inr j) rest = let h = rest j in (h .0, omega (arith, h .1), omega (arith, h .2))
 
-pub strings-in : (m n : ℕ) (s : List ℕ) → Ranged s → m ≤ length s → length s < m + n → In s (strings m n)
-strings-in m zero s h l u = absurd (omega arith)
-strings-in m (suc n) s h l u = by (eqb (length s) m) refl (strings-in (suc m) n s h)
+pub all-strings-in : (m n : ℕ) (s : List ℕ) → Ranged s → m ≤ length s → length s < m + n → In s (allStrings m n)
+all-strings-in m zero s h l u = absurd (omega arith)
+all-strings-in m (suc n) s h l u = by (eqb (length s) m) refl (all-strings-in (suc m) n s h)
   where
-    by : (t : Bool) → eqb (length s) m ≡ t → (suc m ≤ length s → length s < suc m + n → In s (strings (suc m) n))
-        → In s (ofLength m ++ strings (suc m) n)
+    by : (t : Bool) → eqb (length s) m ≡ t → (suc m ≤ length s → length s < suc m + n → In s (allStrings (suc m) n))
+        → In s (ofLength m ++ allStrings (suc m) n)
     by true e rest =
-        in-left s (ofLength m) (strings (suc m) n) (subst (λ (k : ℕ). In s (ofLength k)) (eqb-true (length s) m e) (of-length-in s h))
+        in-left s (ofLength m) (allStrings (suc m) n) (subst (λ (k : ℕ). In s (ofLength k)) (eqb-true (length s) m e) (of-length-in s h))
     by false e rest =
         let ne = eqb-false (length s) m e in
-        in-right s (ofLength m) (strings (suc m) n) (rest (omega arith) (omega arith))
+        in-right s (ofLength m) (allStrings (suc m) n) (rest (omega arith) (omega arith))
 
-pub strings-ascending : (m n : ℕ) → Ascending Sooner (strings m n)
-strings-ascending m zero = tt
-strings-ascending m (suc n) =
-    ascending-joined Sooner (ofLength m) (strings (suc m) n) (of-length-ascending m) (strings-ascending (suc m) n)
-    (λ s u i j. inl (omega (arith, in-of-length m s i .1, in-strings (suc m) n u j .1)))
+pub all-strings-ascending : (m n : ℕ) → Ascending Sooner (allStrings m n)
+all-strings-ascending m zero = tt
+all-strings-ascending m (suc n) =
+    ascending-joined Sooner (ofLength m) (allStrings (suc m) n) (of-length-ascending m) (all-strings-ascending (suc m) n)
+    (λ s u i j. inl (omega (arith, in-of-length m s i .1, in-all-strings (suc m) n u j .1)))
