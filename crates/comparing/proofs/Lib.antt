@@ -17,4 +17,5 @@ pub mod Refusals
 pub mod OneAnswer
 pub mod GapList
 pub mod some_answer
+pub mod SomeAnswer
 pub mod Promises
