@@ -1,16 +1,15 @@
 -- Each of the eight columns has a list of the first values that show its footprints, where no column has too many states: strings up to
 -- the longest that shows a state are enough, with one byte more in columns 0 to 2, which hold no empty string.
 use Prim.Native.Nat.{ℕ, zero, suc, _+_, _≤_, _<_, _^_}
-use mathlib.Core.Path.{_≡_, refl, sym, ap, subst, _∙_}
+use mathlib.Core.Path.{_≡_, refl, sym, ap, subst}
 use mathlib.Core.Bool.{Bool, true, false}
 use mathlib.Core.List.{List, [], _∷_, _++_, map}
-use mathlib.Core.Logic.{_⊎_, inl, inr}
+use mathlib.Core.Logic.{inl, inr}
 use native.Mathlib.Omega.{arith}
 use lib.Dec.{ltb}
 use lib.ListN.{length, length-append}
 use borrow.Author.Tests.{ltb-true, ltb-false}
 use Rattle.stored.specs.Tables.{Statement}
-use Rattle.stored.proofs.Choosing.{never}
 use Rattle.matching.specs.Codes.{codesOf}
 use Rattle.matching.specs.State.{stateOf}
 use Rattle.matching.specs.Rows.{forward}
@@ -18,144 +17,141 @@ use Rattle.matching.proofs.States.{backward}
 use Rattle.judging.specs.Requests.{Value, absent, text, number, columns}
 use Rattle.states.specs.Rows.{mostStates}
 use Rattle.columns.specs.Values.{valuesIn}
-use Rattle.comparing.specs.Order.{Before, In}
-use Rattle.comparing.specs.Requests.{Admitted, AdmitsNeeded, AdmitsOptional}
-use Rattle.comparing.specs.Gaps.{footprint}
-use Rattle.comparing.specs.Columns.{Few}
+use Rattle.comparing.specs.Order.{Before, In, Ascending}
+use Rattle.comparing.specs.Requests.{Admitted, AdmitsNeeded}
+use Rattle.comparing.specs.Gaps.{Alike}
+use Rattle.comparing.specs.Columns.{IsString, Few}
 use Rattle.comparing.specs.Compared.{Uncrowded}
 use Rattle.comparing.specs.Product.{Firsts, AllFirsts}
-use Rattle.comparing.proofs.Ranks.{Ranged, ranged, in-range, ranged-append, ranged-forward, ranged-backward}
+use Rattle.comparing.proofs.Members.{in-mapped, mapped-in, ascending-mapped}
+use Rattle.comparing.proofs.Ranks.{ranged, in-range, ranged-append, ranged-forward, ranged-backward}
 use Rattle.comparing.proofs.Deciding.{state-decides}
 use Rattle.comparing.proofs.Admitting.{needed, is-needed, optional, is-optional}
-use Rattle.comparing.proofs.some_answer.AllStrings.{numbers, in-numbers, numbers-in, numbers-ascending, allStrings, in-all-strings, all-strings-in, all-strings-ascending}
+use Rattle.comparing.proofs.some_answer.AllStrings.{numbers, in-numbers, numbers-in, numbers-ascending, Sooner, allStrings, in-all-strings, all-strings-in, all-strings-ascending}
 use Rattle.comparing.proofs.some_answer.FewOrMany.{behind, state-behind}
-use Rattle.comparing.proofs.some_answer.FirstValues.{Made, Enough, enough-firsts, enough-made, enough-absent}
+use Rattle.comparing.proofs.some_answer.FirstValues.{Short, AllShort, firsts-short}
 
--- the strings with m bytes or more
-abbrev Long : ℕ → List ℕ → Type 0
-Long m s = Ranged s × (m ≤ length s)
+-- absence in front of strings or numbers
+absent-first : {A : Type 0} (make : A → Value) (list : List A) → ((x : A) → Before absent (make x)) → Ascending (λ x y. Before (make x) (make y)) list
+    → Ascending Before (absent ∷ map make list)
+absent-first make list front up = (
+  (λ v i. let (x, j, e) = in-mapped make v list i in subst (Before absent) (sym e) (front x)),
+  ascending-mapped make (λ x y. Before (make x) (make y)) Before (λ x y p. p) list up,
+)
 
--- absence, or such a string
-abbrev Optional : Value → Type 0
-Optional v = (v ≡ absent) ⊎ Made text (Long 0) v
+-- the values of columns 0 to 2
+short-needed : (column : ℕ) → column < 3 → (n : ℕ) → AllShort column (1 + n) (map text (allStrings 1 n))
+short-needed column low n =
+    record {
+      all = λ v i. all v (in-mapped text v (allStrings 1 n) i);
+      order = ascending-mapped text Sooner Before (λ s u p. p) (allStrings 1 n) (all-strings-ascending 1 n);
+      every = every;
+    }
+  where
+    all : (v : Value) → (s : List ℕ) × In s (allStrings 1 n) × (v ≡ text s) → Admitted column v × Short (1 + n) v
+    all v (s, i, e) = let (h, some, short) = in-all-strings 1 n s i in rw e (is-needed column low (text s) (some, in-range s h), short)
 
--- absence, or a number below n
-abbrev Address : ℕ → Value → Type 0
-Address n v = (v ≡ absent) ⊎ Made number (λ k. k < n) v
+    every : (v : Value) → Admitted column v → Short (1 + n) v → In v (map text (allStrings 1 n))
+    every absent ok short = absurd (needed column low absent ok)
+    every (text s) ok short =
+        let (some, h) = needed column low (text s) ok in mapped-in text s (allStrings 1 n) (all-strings-in 1 n s (ranged s h) some short)
+    every (number k) ok short = absurd (needed column low (number k) ok)
 
-to-needed : (v : Value) → Made text (Long 1) v → AdmitsNeeded v
-to-needed v (s, e, ok) = rw e (ok .1, in-range s (ok .0))
+-- of columns 3 to 6
+short-optional : (column : ℕ) → 3 ≤ column → column < 7 → (n : ℕ) → AllShort column n (absent ∷ map text (allStrings 0 n))
+short-optional column low high n =
+    record { all = all; order = absent-first text (allStrings 0 n) (λ s. tt) (all-strings-ascending 0 n); every = every }
+  where
+    all : (v : Value) → In v (absent ∷ map text (allStrings 0 n)) → Admitted column v × Short n v
+    all v (inl e) = rw e (is-optional column low high absent tt, tt)
+    all v (inr i) =
+        let (s, j, e) = in-mapped text v (allStrings 0 n) i in
+        let (h, some, short) = in-all-strings 0 n s j in
+        rw e (is-optional column low high (text s) (in-range s h), omega arith)
 
-from-needed : (v : Value) → AdmitsNeeded v → Made text (Long 1) v
-from-needed absent ok = absurd ok
-from-needed (text s) ok = (s, refl, (ranged s (ok .1), ok .0))
-from-needed (number n) ok = absurd ok
+    every : (v : Value) → Admitted column v → Short n v → In v (absent ∷ map text (allStrings 0 n))
+    every absent ok short = inl refl
+    every (text s) ok short =
+        let h = optional column low high (text s) ok in
+        inr (mapped-in text s (allStrings 0 n) (all-strings-in 0 n s (ranged s h) (omega arith) (omega arith)))
+    every (number k) ok short = absurd (optional column low high (number k) ok)
 
-to-optional : (v : Value) → Optional v → AdmitsOptional v
-to-optional v (inl e) = rw e tt
-to-optional v (inr (s, e, ok)) = rw e (in-range s (ok .0))
+-- of column 7, all
+short-address : AllShort 7 0 (absent ∷ map number (numbers 0 (2 ^ 32)))
+short-address =
+    record { all = all; order = absent-first number (numbers 0 (2 ^ 32)) (λ k. tt) (numbers-ascending 0 (2 ^ 32)); every = every }
+  where
+    all : (v : Value) → In v (absent ∷ map number (numbers 0 (2 ^ 32))) → Admitted 7 v × Short 0 v
+    all v (inl e) = rw e (tt, tt)
+    all v (inr i) = let (k, j, e) = in-mapped number v (numbers 0 (2 ^ 32)) i in rw e (in-numbers 0 (2 ^ 32) k j .1, tt)
 
-from-optional : (v : Value) → AdmitsOptional v → Optional v
-from-optional absent ok = inl refl
-from-optional (text s) ok = inr (s, refl, (ranged s ok, omega arith))
-from-optional (number n) ok = absurd ok
-
-to-address : (v : Value) → Address (2 ^ 32) v → Admitted 7 v
-to-address v (inl e) = rw e tt
-to-address v (inr (k, e, ok)) = rw e ok
-
-from-address : (v : Value) → Admitted 7 v → Address (2 ^ 32) v
-from-address absent ok = inl refl
-from-address (text s) ok = absurd ok
-from-address (number n) ok = inr (n, refl, ok)
-
--- the numbers below n are enough
-enough-numbers : (print : Value → List Bool) (n : ℕ) → Enough print (Made number (λ k. k < n)) (map number (numbers 0 n))
-enough-numbers print n =
-    enough-made print number (λ k. k < n) (numbers 0 n) (λ k i. omega (arith, in-numbers 0 n k i .1)) (numbers-ascending 0 n)
-    (λ k l i ok less. numbers-in 0 n l (omega arith) (omega arith))
-    (λ k ok. (k, numbers-in 0 n k (omega arith) (omega arith), refl))
+    every : (v : Value) → Admitted 7 v → Short 0 v → In v (absent ∷ map number (numbers 0 (2 ^ 32)))
+    every absent ok short = inl refl
+    every (text s) ok short = absurd ok
+    every (number k) ok short = inr (mapped-in number k (numbers 0 (2 ^ 32)) (numbers-in 0 (2 ^ 32) k (omega arith) ok))
 
 -- a number above the lengths of all strings of a list
-longest : (list : List (List ℕ)) → (n : ℕ) × ((s : List ℕ) → In s list → length s < n)
-longest [] = (0, λ s i. absurd i)
-longest (u ∷ list) = let (n, h) = longest list in (suc (length u) + n, λ s i. by n h s i)
-  where
-    by : (n : ℕ) → ((s : List ℕ) → In s list → length s < n) → (s : List ℕ) → In s (u ∷ list) → length s < suc (length u) + n
-    by n h s (inl e) = omega (arith, ap length e)
-    by n h s (inr i) = omega (arith, h s i)
+abbrev bound : List (List ℕ) → ℕ
+bound [] = 0
+bound (u ∷ list) = suc (length u) + bound list
+
+in-bound : (list : List (List ℕ)) (s : List ℕ) → In s list → length s < bound list
+in-bound (u ∷ list) s (inl e) = omega (arith, ap length e)
+in-bound (u ∷ list) s (inr i) = omega (arith, in-bound list s i)
 
 module _ (first second : List Statement) where
   firsts-address : (list : List Value) × Firsts first second 7 list
-  firsts-address =
-      enough-firsts first second 7 (Address (2 ^ 32)) (absent ∷ map number (numbers 0 (2 ^ 32)))
-      (enough-absent (footprint first second 7) (Made number (λ k. k < 2 ^ 32)) (map number (numbers 0 (2 ^ 32))) none
-      (enough-numbers (footprint first second 7) (2 ^ 32)))
-      to-address from-address
+  firsts-address = firsts-short first second 7 0 (absent ∷ map number (numbers 0 (2 ^ 32))) short-address (λ v ok. (v, ok, short v ok, refl))
     where
-      none : Made number (λ k. k < 2 ^ 32) absent → ⊥
-      none (k, e, ok) = let z : _≡_ {A = ℕ} 0 1 = cc in never z
+      short : (v : Value) → Admitted 7 v → Short 0 v
+      short absent ok = tt
+      short (text s) ok = absurd ok
+      short (number k) ok = tt
 
-  module _ (column : ℕ) where
-    -- strings s and u have the same state
-    abbrev Same : List ℕ → List ℕ → Type 0
-    Same s u = stateOf (valuesIn column (first ++ second)) s ≡ stateOf (valuesIn column (first ++ second)) u
+  module _ (column : ℕ) (few : Few (valuesIn column (first ++ second))) where
+    abbrev most : ℕ
+    most = bound (few .1 .list)
 
-    -- the strings of n lengths from m on are enough where each has the state of one of them
-    enough-strings : (m n : ℕ) → ((s : List ℕ) → Long m s → (u : List ℕ) × Long m u × (length u < m + n) × Same s u)
-        → Enough (footprint first second column) (Made text (Long m)) (map text (allStrings m n))
-    enough-strings m n short =
-        enough-made (footprint first second column) text (Long m) (allStrings m n)
-        (λ s i. let h = in-all-strings m n s i in (h .0, h .1))
-        (all-strings-ascending m n)
-        (λ s u i ok less. all-strings-in m n u (ok .0) (ok .1) (shorter s u (in-all-strings m n s i .2) less))
-        (λ s ok. let (u, h, l, same) = short s ok in (u, all-strings-in m n u (h .0) (h .1) l, state-decides first second column s u same))
+    -- a string has the state of a short one
+    state-short : (s : List ℕ) → IsString s
+        → (u : List ℕ) × IsString u × (length u < most) × (stateOf (valuesIn column (first ++ second)) s ≡ stateOf (valuesIn column (first ++ second)) u)
+    state-short s h = let (u, i, same) = few .1 .every s h in (u, few .1 .all u i, in-bound (few .1 .list) u i, same)
+
+    firsts-optional : 3 ≤ column → column < 7 → (list : List Value) × Firsts first second column list
+    firsts-optional low high =
+        firsts-short first second column most (absent ∷ map text (allStrings 0 most)) (short-optional column low high most) like
       where
-        shorter : (s u : List ℕ) → length s < m + n → Before (text u) (text s) → length u < m + n
-        shorter s u l (inl p) = omega arith
-        shorter s u l (inr p) = omega (arith, p .0)
+        like : (v : Value) → Admitted column v → (w : Value) × Admitted column w × Short most w × Alike first second column v w
+        like absent ok = (absent, ok, tt, refl)
+        like (text s) ok =
+            let (u, is, short, same) = state-short s (optional column low high (text s) ok) in
+            (text u, is-optional column low high (text u) is, short, state-decides first second column s u same)
+        like (number k) ok = absurd (optional column low high (number k) ok)
 
-    module _ (few : Few (valuesIn column (first ++ second))) where
-      -- a string has the state of one that shows its state; one with a byte at least, of such a string with a byte behind it
-      short-any : (n : ℕ) → ((s : List ℕ) → In s (few .1 .list) → length s < n) → (s : List ℕ) → Long 0 s
-          → (u : List ℕ) × Long 0 u × (length u < 0 + n) × Same s u
-      short-any n below s ok =
-          let (u, i, same) = few .1 .every s (in-range s (ok .0)) in
-          (u, (ranged u (few .1 .all u i), omega arith), omega (arith, below u i), same)
+    -- a string with a byte at least, of a short one with a byte behind it
+    firsts-needed : length (codesOf (valuesIn column (first ++ second))) ≤ mostStates → column < 3 → (list : List Value) × Firsts first second column list
+    firsts-needed narrow low = firsts-short first second column (1 + most) (map text (allStrings 1 most)) (short-needed column low most) like
+      where
+        with-byte : (r : List ℕ) → AdmitsNeeded (text (forward r))
+            → (u : List ℕ) × AdmitsNeeded (text u) × (length u < 1 + most) × Alike first second column (text (forward r)) (text u)
+        with-byte [] ok = absurd (omega (arith, ok .0))
+        with-byte (b ∷ r) ok =
+            let (byte, more) = ranged-backward (b ∷ r) (ranged (behind b (forward r)) (ok .1)) in
+            let (u, is, short, same) = state-short (forward r) (in-range (forward r) (ranged-forward r more)) in (
+              behind b u,
+              (omega (arith, length-append u (b ∷ [])), in-range (behind b u) (ranged-append u (b ∷ []) (ranged u is) (byte, tt))),
+              omega (arith, length-append u (b ∷ [])),
+              state-decides first second column (behind b (forward r)) (behind b u)
+              (state-behind (valuesIn column (first ++ second)) narrow b (forward r) u same),
+            )
 
-      short-some : (n : ℕ) → ((s : List ℕ) → In s (few .1 .list) → length s < n) → length (codesOf (valuesIn column (first ++ second))) ≤ mostStates
-          → (s : List ℕ) → Long 1 s → (u : List ℕ) × Long 1 u × (length u < 1 + n) × Same s u
-      short-some n below narrow s ok = let (r, e, row) = backward s in by r e
-        where
-          by : (r : List ℕ) → forward r ≡ s → (u : List ℕ) × Long 1 u × (length u < 1 + n) × Same s u
-          by [] e = absurd (omega (arith, ok .1, ap length e))
-          by (b ∷ r) e =
-              let (byte, more) = ranged-backward (b ∷ r) (rw e (ok .0)) in
-              let (u, h, l, same) = short-any n below (forward r) (ranged-forward r more, omega arith) in (
-                behind b u,
-                (ranged-append u (b ∷ []) (h .0) (byte, tt), omega (arith, length-append u (b ∷ []))),
-                omega (arith, length-append u (b ∷ [])),
-                ap (stateOf (valuesIn column (first ++ second))) (sym e)
-                ∙ state-behind (valuesIn column (first ++ second)) narrow b (forward r) u same,
-              )
-
-      firsts-needed : length (codesOf (valuesIn column (first ++ second))) ≤ mostStates → column < 3
-          → (list : List Value) × Firsts first second column list
-      firsts-needed narrow low =
-          let (n, below) = longest (few .1 .list) in
-          enough-firsts first second column (Made text (Long 1)) (map text (allStrings 1 n))
-          (enough-strings 1 n (short-some n below narrow))
-          (λ v ok. is-needed column low v (to-needed v ok)) (λ v ok. from-needed v (needed column low v ok))
-
-      firsts-optional : 3 ≤ column → column < 7 → (list : List Value) × Firsts first second column list
-      firsts-optional low high =
-          let (n, below) = longest (few .1 .list) in
-          enough-firsts first second column Optional (absent ∷ map text (allStrings 0 n))
-          (enough-absent (footprint first second column) (Made text (Long 0)) (map text (allStrings 0 n)) none (enough-strings 0 n (short-any n below)))
-          (λ v ok. is-optional column low high v (to-optional v ok)) (λ v ok. from-optional v (optional column low high v ok))
-        where
-          none : Made text (Long 0) absent → ⊥
-          none (s, e, ok) = let z : _≡_ {A = ℕ} 0 1 = cc in never z
+        like : (v : Value) → Admitted column v → (w : Value) × Admitted column w × Short (1 + most) w × Alike first second column v w
+        like absent ok = absurd (needed column low absent ok)
+        like (text s) ok =
+            let (r, e, row) = backward s in
+            let (u, is, short, same) = with-byte r (rw e (needed column low (text s) ok)) in
+            (text u, is-needed column low (text u) is, short, rw e at same)
+        like (number k) ok = absurd (needed column low (number k) ok)
 
   module _ (narrow : (d : ℕ) → d < 7 → length (codesOf (valuesIn d (first ++ second))) ≤ mostStates) (few : Uncrowded (first ++ second)) where
     firsts-of : (c : ℕ) → c < columns → (list : List Value) × Firsts first second c list

@@ -21,11 +21,12 @@ use Rattle.states.specs.Rows.{mostStates}
 use Rattle.columns.specs.Values.{valuesIn}
 use Rattle.comparing.specs.Order.{In}
 use Rattle.comparing.specs.Counts.{Apart}
-use Rattle.comparing.specs.Columns.{IsString, Few, TooMany}
+use Rattle.comparing.specs.Columns.{IsString, States, Few, TooMany}
 use Rattle.comparing.specs.Compared.{Crowded}
 use Rattle.comparing.proofs.Ranks.{Ranged, ranged, in-range, ranged-append, ranged-backward}
-use Rattle.comparing.proofs.some_answer.Pairs.{pairs, in-pairs, pairs-in, Like, New, all-or-one}
+use Rattle.comparing.proofs.some_answer.Pairs.{pairs, in-pairs, pairs-in}
 use Rattle.comparing.proofs.some_answer.AllStrings.{bytes, bytes-in, in-bytes}
+use Rattle.comparing.proofs.some_answer.OneOfEach.{Like, New, like-or-new}
 
 -- a byte behind a string
 abbrev pub behind : ℕ → List ℕ → List ℕ
@@ -38,47 +39,52 @@ module _ (vs : List (Reading × List ℕ)) (narrow : length (codesOf vs) ≤ mos
       same-row vs narrow (behind b s) (behind b u)
       (row-step (codesOf vs) s b ∙ ap (stepRow (codesOf vs) b) (same-state vs narrow s u same) ∙ sym (row-step (codesOf vs) u b))
 
-  module _ (list : List (List ℕ)) (start : In [] list) where
-    -- where a byte behind a string of a list leads to no new state, the list shows every state
-    closed : ((s : List ℕ) → In s (pairs behind bytes list) → Like (stateOf vs) s list) → (r : List ℕ) → Ranged r → Like (stateOf vs) (forward r) list
-    closed none [] h = ([], start, refl)
+  -- a list of strings, the empty one among them, whose states differ
+  record Gathered (list : List (List ℕ)) : Type 0 where
+    start : In [] list
+    all : (s : List ℕ) → In s list → Ranged s
+    apart : Apart (stateOf vs) list
+
+  module _ (list : List (List ℕ)) (g : Gathered list) where
+    -- where a byte behind a string of the list leads to no new state, the list shows every state
+    closed : ((s : List ℕ) → In s (pairs behind bytes list) → Like (stateOf vs) list s) → (r : List ℕ) → Ranged r → Like (stateOf vs) list (forward r)
+    closed none [] h = ([], g .start, refl)
     closed none (b ∷ r) h =
         let (w, i, e) = closed none r (h .1) in
         let (y, j, f) = none (behind b w) (pairs-in behind bytes list b w (bytes-in b (h .0)) i) in
         (y, j, state-behind b (forward r) w e ∙ f)
 
-    shown : ((s : List ℕ) → In s (pairs behind bytes list) → Like (stateOf vs) s list) → (s : List ℕ) → IsString s → Like (stateOf vs) s list
+    shown : ((s : List ℕ) → In s (pairs behind bytes list) → Like (stateOf vs) list s) → (s : List ℕ) → IsString s → Like (stateOf vs) list s
     shown none s h =
         let (r, e, row) = backward s in
-        subst (λ (u : List ℕ). Like (stateOf vs) u list) e (closed none r (ranged-backward r (rw e (ranged s h))))
+        subst (Like (stateOf vs) list) e (closed none r (ranged-backward r (rw e (ranged s h))))
 
-  gather : (fuel : ℕ) (list : List (List ℕ)) → length list + fuel ≡ 513 → In [] list → ((s : List ℕ) → In s list → Ranged s)
-      → Apart (stateOf vs) list → Few vs ⊎ TooMany vs
-  gather zero list size start all apart = inr (record { list = list; size = omega arith; all = λ s i. in-range s (all s i); apart = apart })
-  gather (suc fuel) list size start all apart = by (gather fuel) (all-or-one (stateOf vs) (pairs behind bytes list) list)
+    -- a string that leads to a new one joins them
+    joined : (u : List ℕ) → In u (pairs behind bytes list) → New (stateOf vs) list u → Gathered (u ∷ list)
+    joined u i new = record { start = inr (g .start); all = all; apart = (new, g .apart) }
+      where
+        all : (s : List ℕ) → In s (u ∷ list) → Ranged s
+        all s (inl e) =
+            let (b, w, j, k, f) = in-pairs behind bytes list u i in
+            rw (e ∙ f) (ranged-append w (b ∷ []) (g .all w k) (in-bytes b j, tt))
+        all s (inr k) = g .all s k
+
+  gather : (fuel : ℕ) (list : List (List ℕ)) → length list + fuel ≡ 513 → Gathered list → Few vs ⊎ TooMany vs
+  gather zero list size g = inr (record { list = list; size = omega arith; all = λ s i. in-range s (g .all s i); apart = g .apart })
+  gather (suc fuel) list size g = by (gather fuel) (like-or-new (stateOf vs) list (pairs behind bytes list))
     where
-      ranged-behind : (u : List ℕ) → In u (pairs behind bytes list) → (s : List ℕ) → In s (u ∷ list) → Ranged s
-      ranged-behind u i s (inl e) =
-          let (b, w, j, k, f) = in-pairs behind bytes list u i in
-          rw (e ∙ f) (ranged-append w (b ∷ []) (all w k) (in-bytes b j, tt))
-      ranged-behind u i s (inr k) = all s k
-
-      by : ((list : List (List ℕ)) → length list + fuel ≡ 513 → In [] list → ((s : List ℕ) → In s list → Ranged s)
-          → Apart (stateOf vs) list → Few vs ⊎ TooMany vs)
-          → ((s : List ℕ) → In s (pairs behind bytes list) → Like (stateOf vs) s list)
-          ⊎ ((s : List ℕ) × In s (pairs behind bytes list) × New (stateOf vs) s list)
+      by : ((l : List (List ℕ)) → length l + fuel ≡ 513 → Gathered l → Few vs ⊎ TooMany vs)
+          → ((s : List ℕ) → In s (pairs behind bytes list) → Like (stateOf vs) list s)
+          ⊎ ((s : List ℕ) × In s (pairs behind bytes list) × New (stateOf vs) list s)
           → Few vs ⊎ TooMany vs
       by more (inl none) =
-          inl (
-            length list,
-            record { list = list; size = refl; all = λ s i. in-range s (all s i); apart = apart; every = shown list start none },
-            omega arith,
-          )
-      by more (inr (u, i, new)) = more (u ∷ list) (omega arith) (inr start) (ranged-behind u i) (new, apart)
+          let states : States vs (length list) = record { list = list; size = refl; all = λ s i. in-range s (g .all s i); apart = g .apart; every = shown list g none } in
+          inl (length list, states, omega arith)
+      by more (inr (u, i, new)) = more (u ∷ list) (omega arith) (joined list g u i new)
 
   -- there are at most 512 states, or more
   pub few-else-many : Few vs ⊎ TooMany vs
-  few-else-many = gather 512 ([] ∷ []) refl (inl refl) all ((λ s i. absurd i), tt)
+  few-else-many = gather 512 ([] ∷ []) refl (record { start = inl refl; all = all; apart = ((λ s i. absurd i), tt) })
     where
       all : (s : List ℕ) → In s ([] ∷ []) → Ranged s
       all s (inl e) = rw e tt
