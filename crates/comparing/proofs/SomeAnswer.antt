@@ -50,6 +50,7 @@ narrow-codes rows none d low =
 module _ {R : Type 0} (no : ℕ → ℕ → ℕ → R) (Yes : List Statement → List Statement → R → Type 0)
     (some : (first second : List Statement) (list : List (List Value)) → Gaps first second list → (r : R) × Yes first second r) where
   module _ (first second : List Statement) (none : columns ≤ firstWide (first ++ second)) where
+    -- 12, or an answer
     some-kinds : Uncrowded (first ++ second) → (r : R) × FromKinds no Yes first second r
     some-kinds few =
         let (lists, firsts) = some-firsts first second (narrow-codes (first ++ second) none) few in
@@ -59,6 +60,7 @@ module _ {R : Type 0} (no : ℕ → ℕ → ℕ → R) (Yes : List Statement →
         (λ e. some first second (gapsAmong first second lists) (product-gaps first second lists firsts)) in
         (r, (counts, counts-from first second 0 lists firsts, is))
 
+    -- 11, or what follows it
     some-states : (r : R) × FromStates no Yes first second r
     some-states =
         by (crowded-or-few (first ++ second) (λ d low. few-else-many (valuesIn d (first ++ second)) (narrow-codes (first ++ second) none d low)) 7 (omega arith))
@@ -67,6 +69,7 @@ module _ {R : Type 0} (no : ℕ → ℕ → ℕ → R) (Yes : List Statement →
         by (inl (c, crowded)) = (no 11 0 c, inl (c, crowded, refl))
         by (inr few) = let (r, is) = some-kinds few in (r, inr (few, is))
 
+  -- a table's refusal, 10, or what follows them
   some-tables : (a b : ReadAnswer) (first second : List Statement) → (r : R) × FromTables no Yes a b first second r
   some-tables (A.Refused n place) other first second = (no n 1 place, refl)
   some-tables (A.Accepted m) (A.Refused n place) first second = (no n 2 place, refl)
@@ -76,11 +79,13 @@ module _ {R : Type 0} (no : ℕ → ℕ → ℕ → R) (Yes : List Statement →
       (λ e. (no 10 0 (firstWide (first ++ second)), refl))
       (λ e. some-states first second (ltb-false (firstWide (first ++ second)) columns e))
 
+  -- 14, or what follows it
   some-answered : (short : Bool) (a b : List ℕ) → (r : R) × Answered no Yes short a b r
   some-answered short a b =
       pick-some (λ r. r ≡ no 14 0 0) (FromTables no Yes (reading a) (reading b) (rowsOf a) (rowsOf b)) short
       (λ e. (no 14 0 0, refl)) (λ e. some-tables (reading a) (reading b) (rowsOf a) (rowsOf b))
 
+-- the number of gaps is the list's length
 some-count : (first second : List Statement) (list : List (List Value)) → Gaps first second list → (r : Counting) × IsCount first second r
 some-count first second list gaps = (C.Gaps (length list), (length list, record { list = list; gaps = gaps; size = refl }, refl))
 
@@ -89,6 +94,7 @@ pub some-answer : (room : ℕ) (a b : List ℕ) → (r : Counting) × Compared r
 some-answer room a b = some-answered C.Refused IsCount some-count (ltb room workspaceWords) a b
 
 module _ (k : ℕ) (buffer : List ℕ) where
+  -- 15, or the values of gap k
   some-shown : (first second : List Statement) (list : List (List Value)) → Gaps first second list → k < length list
       → (r : Showing × List ℕ) × IsShown k buffer first second r
   some-shown first second list gaps low =
@@ -100,6 +106,7 @@ module _ (k : ℕ) (buffer : List ℕ) where
       (λ e. ((S.Shown (shapeOf request), laid 7 request ++ drop valueBytes buffer), refl)) in
       (r, (request, record { list = list; gaps = gaps; low = low; here = refl }, is))
 
+  -- 13, or gap k
   some-gap : (first second : List Statement) (list : List (List Value)) → Gaps first second list
       → (r : Showing × List ℕ) × IsAnswer k buffer first second r
   some-gap first second list gaps =

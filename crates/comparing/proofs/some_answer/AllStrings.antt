@@ -1,4 +1,4 @@
--- All numbers from one on, and all strings with so many bytes or more and fewer than so many: each list in its order, with every one in it.
+-- Lists of all numbers, and of all strings, from one bound to another: in order, with every one in it.
 use Prim.Native.Nat.{ℕ, zero, suc, _+_, _≤_, _<_}
 use mathlib.Core.Path.{_≡_, refl, sym, ap, subst, _∙_}
 use mathlib.Core.Bool.{Bool, true, false}
@@ -15,7 +15,7 @@ use Rattle.comparing.proofs.Members.{in-joined, in-left, in-right, asce
 use Rattle.comparing.proofs.Ranks.{Ranged}
 use Rattle.comparing.proofs.some_answer.Pairs.{pairs, in-pairs, pairs-in, pairs-ascending}
 
--- n numbers from a on
+-- n numbers from a on, what is among them, and their order
 pub numbers : ℕ → ℕ → List ℕ
 numbers a zero = []
 numbers a (suc n) = a ∷ numbers (suc a) n
@@ -56,7 +56,7 @@ bytes-ascending : Ascending _<_ bytes
 unfolding bytes
 bytes-ascending = numbers-ascending 0x21 94
 
--- the strings with n bytes
+-- the strings with n bytes, what is among them, and their order
 abbrev ofLength : ℕ → List (List ℕ)
 ofLength zero = [] ∷ []
 ofLength (suc n) = pairs _∷_ bytes (ofLength n)
@@ -88,7 +88,7 @@ of-length-ascending (suc n) = pairs-ascending _∷_ _<_ Sooner Sooner (ofLength 
     near b s u (inl shorter) = inl (omega arith)
     near b s u (inr (same, smaller)) = inr (ap suc same, inr (refl, smaller))
 
--- the strings with m bytes or more, of n lengths
+-- the strings of n lengths from m on, what is among them, and their order
 abbrev pub allStrings : ℕ → ℕ → List (List ℕ)
 allStrings m zero = []
 allStrings m (suc n) = ofLength m ++ allStrings (suc m) n

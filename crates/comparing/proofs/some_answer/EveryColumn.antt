@@ -57,7 +57,7 @@ short-needed column low n =
         let (some, h) = needed column low (text s) ok in mapped-in text s (allStrings 1 n) (all-strings-in 1 n s (ranged s h) some short)
     every (number k) ok short = absurd (needed column low (number k) ok)
 
--- of columns 3 to 6
+-- those of columns 3 to 6
 short-optional : (column : ℕ) → 3 ≤ column → column < 7 → (n : ℕ) → AllShort column n (absent ∷ map text (allStrings 0 n))
 short-optional column low high n =
     record { all = all; order = absent-first text (allStrings 0 n) (λ s. tt) (all-strings-ascending 0 n); every = every }
@@ -76,7 +76,7 @@ short-optional column low high n =
         inr (mapped-in text s (allStrings 0 n) (all-strings-in 0 n s (ranged s h) (omega arith) (omega arith)))
     every (number k) ok short = absurd (optional column low high (number k) ok)
 
--- of column 7, all
+-- those of column 7: all of them
 short-address : AllShort 7 0 (absent ∷ map number (numbers 0 (2 ^ 32)))
 short-address =
     record { all = all; order = absent-first number (numbers 0 (2 ^ 32)) (λ k. tt) (numbers-ascending 0 (2 ^ 32)); every = every }
@@ -100,6 +100,7 @@ in-bound (u ∷ list) s (inl e) = omega (arith, ap length e)
 in-bound (u ∷ list) s (inr i) = omega (arith, in-bound list s i)
 
 module _ (first second : List Statement) where
+  -- the first values of column 7
   firsts-address : (list : List Value) × Firsts first second 7 list
   firsts-address = firsts-short first second 7 0 (absent ∷ map number (numbers 0 (2 ^ 32))) short-address (λ v ok. (v, ok, short v ok, refl))
     where
@@ -109,6 +110,7 @@ module _ (first second : List Statement) where
       short (number k) ok = tt
 
   module _ (column : ℕ) (few : Few (valuesIn column (first ++ second))) where
+    -- a length that no string of the list of states has
     abbrev most : ℕ
     most = bound (few .1 .list)
 
@@ -117,6 +119,7 @@ module _ (first second : List Statement) where
         → (u : List ℕ) × IsString u × (length u < most) × (stateOf (valuesIn column (first ++ second)) s ≡ stateOf (valuesIn column (first ++ second)) u)
     state-short s h = let (u, i, same) = few .1 .every s h in (u, few .1 .all u i, in-bound (few .1 .list) u i, same)
 
+    -- the first values of columns 3 to 6: a string is like a short one
     firsts-optional : 3 ≤ column → column < 7 → (list : List Value) × Firsts first second column list
     firsts-optional low high =
         firsts-short first second column most (absent ∷ map text (allStrings 0 most)) (short-optional column low high most) like
@@ -128,7 +131,7 @@ module _ (first second : List Statement) where
             (text u, is-optional column low high (text u) is, short, state-decides first second column s u same)
         like (number k) ok = absurd (optional column low high (number k) ok)
 
-    -- a string with a byte at least, of a short one with a byte behind it
+    -- of columns 0 to 2: a string that ends in a byte is like a short one with the byte behind it
     firsts-needed : length (codesOf (valuesIn column (first ++ second))) ≤ mostStates → column < 3 → (list : List Value) × Firsts first second column list
     firsts-needed narrow low = firsts-short first second column (1 + most) (map text (allStrings 1 most)) (short-needed column low most) like
       where
@@ -142,7 +145,7 @@ module _ (first second : List Statement) where
               (omega (arith, length-append u (b ∷ [])), in-range (behind b u) (ranged-append u (b ∷ []) (ranged u is) (byte, tt))),
               omega (arith, length-append u (b ∷ [])),
               state-decides first second column (behind b (forward r)) (behind b u)
-              (state-behind (valuesIn column (first ++ second)) narrow b (forward r) u same),
+                  (state-behind (valuesIn column (first ++ second)) narrow b (forward r) u same),
             )
 
         like : (v : Value) → Admitted column v → (w : Value) × Admitted column w × Short (1 + most) w × Alike first second column v w
@@ -154,6 +157,7 @@ module _ (first second : List Statement) where
         like (number k) ok = absurd (needed column low (number k) ok)
 
   module _ (narrow : (d : ℕ) → d < 7 → length (codesOf (valuesIn d (first ++ second))) ≤ mostStates) (few : Uncrowded (first ++ second)) where
+    -- of any column
     firsts-of : (c : ℕ) → c < columns → (list : List Value) × Firsts first second c list
     firsts-of c h = by (ltb c 3) refl (ltb c 7) refl
       where
@@ -166,6 +170,7 @@ module _ (first second : List Statement) where
             let seven : 7 ≡ c = omega (arith, ltb-false c 7 f) in
             subst (λ (d : ℕ). (list : List Value) × Firsts first second d list) seven firsts-address
 
+    -- of n columns from one on
     firsts-from : (n c : ℕ) → c + n ≡ columns → (lists : List (List Value)) × AllFirsts first second c lists
     firsts-from zero c e = ([], omega arith)
     firsts-from (suc n) c e =

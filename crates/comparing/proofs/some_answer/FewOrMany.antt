@@ -54,12 +54,13 @@ module _ (vs : List (Reading × List ℕ)) (narrow : length (codesOf vs) ≤ mos
         let (y, j, f) = none (behind b w) (pairs-in behind bytes list b w (bytes-in b (h .0)) i) in
         (y, j, state-behind b (forward r) w e ∙ f)
 
+    -- turned round: any string
     shown : ((s : List ℕ) → In s (pairs behind bytes list) → Like (stateOf vs) list s) → (s : List ℕ) → IsString s → Like (stateOf vs) list s
     shown none s h =
         let (r, e, row) = backward s in
         subst (Like (stateOf vs) list) e (closed none r (ranged-backward r (rw e (ranged s h))))
 
-    -- a string that leads to a new one joins them
+    -- a string with a new state joins them
     joined : (u : List ℕ) → In u (pairs behind bytes list) → New (stateOf vs) list u → Gathered (u ∷ list)
     joined u i new = record { start = inr (g .start); all = all; apart = (new, g .apart) }
       where
@@ -69,11 +70,12 @@ module _ (vs : List (Reading × List ℕ)) (narrow : length (codesOf vs) ≤ mos
             rw (e ∙ f) (ranged-append w (b ∷ []) (g .all w k) (in-bytes b j, tt))
         all s (inr k) = g .all s k
 
-  gather : (fuel : ℕ) (list : List (List ℕ)) → length list + fuel ≡ 513 → Gathered list → Few vs ⊎ TooMany vs
+  -- they are complete, or one more joins them, until they are too many
+  gather : (fuel : ℕ) (list : List (List ℕ)) → length list + fuel ≡ suc mostStates → Gathered list → Few vs ⊎ TooMany vs
   gather zero list size g = inr (record { list = list; size = omega arith; all = λ s i. in-range s (g .all s i); apart = g .apart })
   gather (suc fuel) list size g = by (gather fuel) (like-or-new (stateOf vs) list (pairs behind bytes list))
     where
-      by : ((l : List (List ℕ)) → length l + fuel ≡ 513 → Gathered l → Few vs ⊎ TooMany vs)
+      by : ((l : List (List ℕ)) → length l + fuel ≡ suc mostStates → Gathered l → Few vs ⊎ TooMany vs)
           → ((s : List ℕ) → In s (pairs behind bytes list) → Like (stateOf vs) list s)
           ⊎ ((s : List ℕ) × In s (pairs behind bytes list) × New (stateOf vs) list s)
           → Few vs ⊎ TooMany vs
@@ -84,7 +86,7 @@ module _ (vs : List (Reading × List ℕ)) (narrow : length (codesOf vs) ≤ mos
 
   -- there are at most 512 states, or more
   pub few-else-many : Few vs ⊎ TooMany vs
-  few-else-many = gather 512 ([] ∷ []) refl (record { start = inl refl; all = all; apart = ((λ s i. absurd i), tt) })
+  few-else-many = gather mostStates ([] ∷ []) refl (record { start = inl refl; all = all; apart = ((λ s i. absurd i), tt) })
     where
       all : (s : List ℕ) → In s ([] ∷ []) → Ranged s
       all s (inl e) = rw e tt

@@ -66,6 +66,7 @@ module _ {A : Type 0} (f : A → List Bool) where
   oneOfEach [] = []
   oneOfEach (x ∷ l) = x ∷ keep (tells x) (oneOfEach l)
 
+  -- they are in the list, each of the list is like one of them, and they keep its order
   pub each-in : (l : List A) (x : A) → In x (oneOfEach l) → In x l
   each-in (y ∷ l) x (inl e) = inl e
   each-in (y ∷ l) x (inr i) = inr (each-in l x (in-kept (tells y) x (oneOfEach l) i .0))
