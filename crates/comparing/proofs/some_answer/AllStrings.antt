@@ -41,37 +41,37 @@ numbers-ascending a zero = tt
 numbers-ascending a (suc n) = ((λ m i. in-numbers (suc a) n m i .0), numbers-ascending (suc a) n)
 
 -- the bytes 21 to 7E hex
-pub bytes : List ℕ
-bytes = numbers 0x21 94
+pub allBytes : List ℕ
+allBytes = numbers 0x21 94
 
-pub bytes-in : (b : ℕ) → IsByte b → In b bytes
-unfolding bytes
-bytes-in b h = numbers-in 0x21 94 b (h .0) (omega (arith, h .1))
+pub all-bytes-in : (b : ℕ) → IsByte b → In b allBytes
+unfolding allBytes
+all-bytes-in b h = numbers-in 0x21 94 b (h .0) (omega (arith, h .1))
 
-pub in-bytes : (b : ℕ) → In b bytes → IsByte b
-unfolding bytes
-in-bytes b i = let h = in-numbers 0x21 94 b i in (h .0, omega (arith, h .1))
+pub in-all-bytes : (b : ℕ) → In b allBytes → IsByte b
+unfolding allBytes
+in-all-bytes b i = let h = in-numbers 0x21 94 b i in (h .0, omega (arith, h .1))
 
-bytes-ascending : Ascending _<_ bytes
-unfolding bytes
-bytes-ascending = numbers-ascending 0x21 94
+all-bytes-ascending : Ascending _<_ allBytes
+unfolding allBytes
+all-bytes-ascending = numbers-ascending 0x21 94
 
 -- the strings with n bytes, what is among them, and their order
 abbrev ofLength : ℕ → List (List ℕ)
 ofLength zero = [] ∷ []
-ofLength (suc n) = pairs _∷_ bytes (ofLength n)
+ofLength (suc n) = pairs _∷_ allBytes (ofLength n)
 
 in-of-length : (n : ℕ) (s : List ℕ) → In s (ofLength n) → Ranged s × (length s ≡ n)
 in-of-length zero s (inl e) = rw e (tt, refl)
 in-of-length zero s (inr i) = absurd i
 in-of-length (suc n) s i =
-    let m = in-pairs _∷_ bytes (ofLength n) s i in
+    let m = in-pairs _∷_ allBytes (ofLength n) s i in
     let rest = in-of-length n (m .1) (m .3) in
-    rw (m .4) ((in-bytes (m .0) (m .2), rest .0), ap suc (rest .1))
+    rw (m .4) ((in-all-bytes (m .0) (m .2), rest .0), ap suc (rest .1))
 
 of-length-in : (s : List ℕ) → Ranged s → In s (ofLength (length s))
 of-length-in [] h = inl refl
-of-length-in (b ∷ s) h = pairs-in _∷_ bytes (ofLength (length s)) b s (bytes-in b (h .0)) (of-length-in s (h .1))
+of-length-in (b ∷ s) h = pairs-in _∷_ allBytes (ofLength (length s)) b s (all-bytes-in b (h .0)) (of-length-in s (h .1))
 
 -- the order of strings
 abbrev pub Sooner : List ℕ → List ℕ → Type 0
@@ -79,7 +79,7 @@ Sooner s u = Before (text s) (text u)
 
 of-length-ascending : (n : ℕ) → Ascending Sooner (ofLength n)
 of-length-ascending zero = ((λ s i. absurd i), tt)
-of-length-ascending (suc n) = pairs-ascending _∷_ _<_ Sooner Sooner (ofLength n) far near bytes bytes-ascending (of-length-ascending n)
+of-length-ascending (suc n) = pairs-ascending _∷_ _<_ Sooner Sooner (ofLength n) far near allBytes all-bytes-ascending (of-length-ascending n)
   where
     far : (b c : ℕ) (s u : List ℕ) → b < c → In s (ofLength n) → In u (ofLength n) → Sooner (b ∷ s) (c ∷ u)
     far b c s u less i j = inr (ap suc (in-of-length n s i .1 ∙ sym (in-of-length n u j .1)), inl less)

@@ -28,8 +28,8 @@ use Rattle.comparing.proofs.Ranks.{ranged, in-range, ranged-append, ran
 use Rattle.comparing.proofs.Deciding.{state-decides}
 use Rattle.comparing.proofs.Admitting.{needed, is-needed, optional, is-optional}
 use Rattle.comparing.proofs.some_answer.AllStrings.{numbers, in-numbers, numbers-in, numbers-ascending, Sooner, allStrings, in-all-strings, all-strings-in, all-strings-ascending}
-use Rattle.comparing.proofs.some_answer.FewOrMany.{behind, state-behind}
-use Rattle.comparing.proofs.some_answer.FirstValues.{Short, AllShort, firsts-short}
+use Rattle.comparing.proofs.some_answer.FewOrMany.{withByte, state-behind}
+use Rattle.comparing.proofs.some_answer.FirstValues.{Shorter, AllShorter, firsts-short}
 
 -- absence in front of strings or numbers
 absent-first : {A : Type 0} (make : A → Value) (list : List A) → ((x : A) → Before absent (make x)) → Ascending (λ x y. Before (make x) (make y)) list
@@ -40,7 +40,7 @@ absent-first make list front up = (
 )
 
 -- the values of columns 0 to 2
-short-needed : (column : ℕ) → column < 3 → (n : ℕ) → AllShort column (1 + n) (map text (allStrings 1 n))
+short-needed : (column : ℕ) → column < 3 → (n : ℕ) → AllShorter column (1 + n) (map text (allStrings 1 n))
 short-needed column low n =
     record {
       all = λ v i. all v (in-mapped text v (allStrings 1 n) i);
@@ -48,28 +48,28 @@ short-needed column low n =
       every = every;
     }
   where
-    all : (v : Value) → (s : List ℕ) × In s (allStrings 1 n) × (v ≡ text s) → Admitted column v × Short (1 + n) v
+    all : (v : Value) → (s : List ℕ) × In s (allStrings 1 n) × (v ≡ text s) → Admitted column v × Shorter (1 + n) v
     all v (s, i, e) = let (h, some, short) = in-all-strings 1 n s i in rw e (is-needed column low (text s) (some, in-range s h), short)
 
-    every : (v : Value) → Admitted column v → Short (1 + n) v → In v (map text (allStrings 1 n))
+    every : (v : Value) → Admitted column v → Shorter (1 + n) v → In v (map text (allStrings 1 n))
     every absent ok short = absurd (needed column low absent ok)
     every (text s) ok short =
         let (some, h) = needed column low (text s) ok in mapped-in text s (allStrings 1 n) (all-strings-in 1 n s (ranged s h) some short)
     every (number k) ok short = absurd (needed column low (number k) ok)
 
 -- those of columns 3 to 6
-short-optional : (column : ℕ) → 3 ≤ column → column < 7 → (n : ℕ) → AllShort column n (absent ∷ map text (allStrings 0 n))
+short-optional : (column : ℕ) → 3 ≤ column → column < 7 → (n : ℕ) → AllShorter column n (absent ∷ map text (allStrings 0 n))
 short-optional column low high n =
     record { all = all; order = absent-first text (allStrings 0 n) (λ s. tt) (all-strings-ascending 0 n); every = every }
   where
-    all : (v : Value) → In v (absent ∷ map text (allStrings 0 n)) → Admitted column v × Short n v
+    all : (v : Value) → In v (absent ∷ map text (allStrings 0 n)) → Admitted column v × Shorter n v
     all v (inl e) = rw e (is-optional column low high absent tt, tt)
     all v (inr i) =
         let (s, j, e) = in-mapped text v (allStrings 0 n) i in
         let (h, some, short) = in-all-strings 0 n s j in
         rw e (is-optional column low high (text s) (in-range s h), omega arith)
 
-    every : (v : Value) → Admitted column v → Short n v → In v (absent ∷ map text (allStrings 0 n))
+    every : (v : Value) → Admitted column v → Shorter n v → In v (absent ∷ map text (allStrings 0 n))
     every absent ok short = inl refl
     every (text s) ok short =
         let h = optional column low high (text s) ok in
@@ -77,15 +77,15 @@ short-optional column low high n =
     every (number k) ok short = absurd (optional column low high (number k) ok)
 
 -- those of column 7: all of them
-short-address : AllShort 7 0 (absent ∷ map number (numbers 0 (2 ^ 32)))
+short-address : AllShorter 7 0 (absent ∷ map number (numbers 0 (2 ^ 32)))
 short-address =
     record { all = all; order = absent-first number (numbers 0 (2 ^ 32)) (λ k. tt) (numbers-ascending 0 (2 ^ 32)); every = every }
   where
-    all : (v : Value) → In v (absent ∷ map number (numbers 0 (2 ^ 32))) → Admitted 7 v × Short 0 v
+    all : (v : Value) → In v (absent ∷ map number (numbers 0 (2 ^ 32))) → Admitted 7 v × Shorter 0 v
     all v (inl e) = rw e (tt, tt)
     all v (inr i) = let (k, j, e) = in-mapped number v (numbers 0 (2 ^ 32)) i in rw e (in-numbers 0 (2 ^ 32) k j .1, tt)
 
-    every : (v : Value) → Admitted 7 v → Short 0 v → In v (absent ∷ map number (numbers 0 (2 ^ 32)))
+    every : (v : Value) → Admitted 7 v → Shorter 0 v → In v (absent ∷ map number (numbers 0 (2 ^ 32)))
     every absent ok short = inl refl
     every (text s) ok short = absurd ok
     every (number k) ok short = inr (mapped-in number k (numbers 0 (2 ^ 32)) (numbers-in 0 (2 ^ 32) k (omega arith) ok))
@@ -104,7 +104,7 @@ module _ (first second : List Statement) where
   firsts-address : (list : List Value) × Firsts first second 7 list
   firsts-address = firsts-short first second 7 0 (absent ∷ map number (numbers 0 (2 ^ 32))) short-address (λ v ok. (v, ok, short v ok, refl))
     where
-      short : (v : Value) → Admitted 7 v → Short 0 v
+      short : (v : Value) → Admitted 7 v → Shorter 0 v
       short absent ok = tt
       short (text s) ok = absurd ok
       short (number k) ok = tt
@@ -124,7 +124,7 @@ module _ (first second : List Statement) where
     firsts-optional low high =
         firsts-short first second column most (absent ∷ map text (allStrings 0 most)) (short-optional column low high most) like
       where
-        like : (v : Value) → Admitted column v → (w : Value) × Admitted column w × Short most w × Alike first second column v w
+        like : (v : Value) → Admitted column v → (w : Value) × Admitted column w × Shorter most w × Alike first second column v w
         like absent ok = (absent, ok, tt, refl)
         like (text s) ok =
             let (u, is, short, same) = state-short s (optional column low high (text s) ok) in
@@ -135,24 +135,24 @@ module _ (first second : List Statement) where
     firsts-needed : length (codesOf (valuesIn column (first ++ second))) ≤ mostStates → column < 3 → (list : List Value) × Firsts first second column list
     firsts-needed narrow low = firsts-short first second column (1 + most) (map text (allStrings 1 most)) (short-needed column low most) like
       where
-        with-byte : (r : List ℕ) → AdmitsNeeded (text (forward r))
+        ending : (r : List ℕ) → AdmitsNeeded (text (forward r))
             → (u : List ℕ) × AdmitsNeeded (text u) × (length u < 1 + most) × Alike first second column (text (forward r)) (text u)
-        with-byte [] ok = absurd (omega (arith, ok .0))
-        with-byte (b ∷ r) ok =
-            let (byte, more) = ranged-backward (b ∷ r) (ranged (behind b (forward r)) (ok .1)) in
+        ending [] ok = absurd (omega (arith, ok .0))
+        ending (b ∷ r) ok =
+            let (byte, more) = ranged-backward (b ∷ r) (ranged (withByte b (forward r)) (ok .1)) in
             let (u, is, short, same) = state-short (forward r) (in-range (forward r) (ranged-forward r more)) in (
-              behind b u,
-              (omega (arith, length-append u (b ∷ [])), in-range (behind b u) (ranged-append u (b ∷ []) (ranged u is) (byte, tt))),
+              withByte b u,
+              (omega (arith, length-append u (b ∷ [])), in-range (withByte b u) (ranged-append u (b ∷ []) (ranged u is) (byte, tt))),
               omega (arith, length-append u (b ∷ [])),
-              state-decides first second column (behind b (forward r)) (behind b u)
+              state-decides first second column (withByte b (forward r)) (withByte b u)
                   (state-behind (valuesIn column (first ++ second)) narrow b (forward r) u same),
             )
 
-        like : (v : Value) → Admitted column v → (w : Value) × Admitted column w × Short (1 + most) w × Alike first second column v w
+        like : (v : Value) → Admitted column v → (w : Value) × Admitted column w × Shorter (1 + most) w × Alike first second column v w
         like absent ok = absurd (needed column low absent ok)
         like (text s) ok =
             let (r, e, row) = backward s in
-            let (u, is, short, same) = with-byte r (rw e (needed column low (text s) ok)) in
+            let (u, is, short, same) = ending r (rw e (needed column low (text s) ok)) in
             (text u, is-needed column low (text u) is, short, rw e at same)
         like (number k) ok = absurd (needed column low (number k) ok)
 

@@ -25,59 +25,59 @@ use Rattle.comparing.specs.Columns.{IsString, States, Few, TooMany}
 use Rattle.comparing.specs.Compared.{Crowded}
 use Rattle.comparing.proofs.Ranks.{Ranged, ranged, in-range, ranged-append, ranged-backward}
 use Rattle.comparing.proofs.some_answer.Pairs.{pairs, in-pairs, pairs-in}
-use Rattle.comparing.proofs.some_answer.AllStrings.{bytes, bytes-in, in-bytes}
+use Rattle.comparing.proofs.some_answer.AllStrings.{allBytes, all-bytes-in, in-all-bytes}
 use Rattle.comparing.proofs.some_answer.OneOfEach.{Like, New, like-or-new}
 
 -- a byte behind a string
-abbrev pub behind : ℕ → List ℕ → List ℕ
-behind b s = s ++ (b ∷ [])
+abbrev pub withByte : ℕ → List ℕ → List ℕ
+withByte b s = s ++ (b ∷ [])
 
 module _ (vs : List (Reading × List ℕ)) (narrow : length (codesOf vs) ≤ mostStates) where
   -- strings with the same state have the same state with a byte behind them
-  pub state-behind : (b : ℕ) (s u : List ℕ) → stateOf vs s ≡ stateOf vs u → stateOf vs (behind b s) ≡ stateOf vs (behind b u)
+  pub state-behind : (b : ℕ) (s u : List ℕ) → stateOf vs s ≡ stateOf vs u → stateOf vs (withByte b s) ≡ stateOf vs (withByte b u)
   state-behind b s u same =
-      same-row vs narrow (behind b s) (behind b u)
+      same-row vs narrow (withByte b s) (withByte b u)
       (row-step (codesOf vs) s b ∙ ap (stepRow (codesOf vs) b) (same-state vs narrow s u same) ∙ sym (row-step (codesOf vs) u b))
 
   -- a list of strings, the empty one among them, whose states differ
-  record Gathered (list : List (List ℕ)) : Type 0 where
+  record ApartStrings (list : List (List ℕ)) : Type 0 where
     start : In [] list
     all : (s : List ℕ) → In s list → Ranged s
     apart : Apart (stateOf vs) list
 
-  module _ (list : List (List ℕ)) (g : Gathered list) where
+  module _ (list : List (List ℕ)) (g : ApartStrings list) where
     -- where a byte behind a string of the list leads to no new state, the list shows every state
-    closed : ((s : List ℕ) → In s (pairs behind bytes list) → Like (stateOf vs) list s) → (r : List ℕ) → Ranged r → Like (stateOf vs) list (forward r)
+    closed : ((s : List ℕ) → In s (pairs withByte allBytes list) → Like (stateOf vs) list s) → (r : List ℕ) → Ranged r → Like (stateOf vs) list (forward r)
     closed none [] h = ([], g .start, refl)
     closed none (b ∷ r) h =
         let (w, i, e) = closed none r (h .1) in
-        let (y, j, f) = none (behind b w) (pairs-in behind bytes list b w (bytes-in b (h .0)) i) in
+        let (y, j, f) = none (withByte b w) (pairs-in withByte allBytes list b w (all-bytes-in b (h .0)) i) in
         (y, j, state-behind b (forward r) w e ∙ f)
 
     -- turned round: any string
-    shown : ((s : List ℕ) → In s (pairs behind bytes list) → Like (stateOf vs) list s) → (s : List ℕ) → IsString s → Like (stateOf vs) list s
+    shown : ((s : List ℕ) → In s (pairs withByte allBytes list) → Like (stateOf vs) list s) → (s : List ℕ) → IsString s → Like (stateOf vs) list s
     shown none s h =
         let (r, e, row) = backward s in
         subst (Like (stateOf vs) list) e (closed none r (ranged-backward r (rw e (ranged s h))))
 
     -- a string with a new state joins them
-    joined : (u : List ℕ) → In u (pairs behind bytes list) → New (stateOf vs) list u → Gathered (u ∷ list)
+    joined : (u : List ℕ) → In u (pairs withByte allBytes list) → New (stateOf vs) list u → ApartStrings (u ∷ list)
     joined u i new = record { start = inr (g .start); all = all; apart = (new, g .apart) }
       where
         all : (s : List ℕ) → In s (u ∷ list) → Ranged s
         all s (inl e) =
-            let (b, w, j, k, f) = in-pairs behind bytes list u i in
-            rw (e ∙ f) (ranged-append w (b ∷ []) (g .all w k) (in-bytes b j, tt))
+            let (b, w, j, k, f) = in-pairs withByte allBytes list u i in
+            rw (e ∙ f) (ranged-append w (b ∷ []) (g .all w k) (in-all-bytes b j, tt))
         all s (inr k) = g .all s k
 
   -- they are complete, or one more joins them, until they are too many
-  gather : (fuel : ℕ) (list : List (List ℕ)) → length list + fuel ≡ suc mostStates → Gathered list → Few vs ⊎ TooMany vs
-  gather zero list size g = inr (record { list = list; size = omega arith; all = λ s i. in-range s (g .all s i); apart = g .apart })
-  gather (suc fuel) list size g = by (gather fuel) (like-or-new (stateOf vs) list (pairs behind bytes list))
+  find-states : (fuel : ℕ) (list : List (List ℕ)) → length list + fuel ≡ suc mostStates → ApartStrings list → Few vs ⊎ TooMany vs
+  find-states zero list size g = inr (record { list = list; size = omega arith; all = λ s i. in-range s (g .all s i); apart = g .apart })
+  find-states (suc fuel) list size g = by (find-states fuel) (like-or-new (stateOf vs) list (pairs withByte allBytes list))
     where
-      by : ((l : List (List ℕ)) → length l + fuel ≡ suc mostStates → Gathered l → Few vs ⊎ TooMany vs)
-          → ((s : List ℕ) → In s (pairs behind bytes list) → Like (stateOf vs) list s)
-          ⊎ ((s : List ℕ) × In s (pairs behind bytes list) × New (stateOf vs) list s)
+      by : ((l : List (List ℕ)) → length l + fuel ≡ suc mostStates → ApartStrings l → Few vs ⊎ TooMany vs)
+          → ((s : List ℕ) → In s (pairs withByte allBytes list) → Like (stateOf vs) list s)
+          ⊎ ((s : List ℕ) × In s (pairs withByte allBytes list) × New (stateOf vs) list s)
           → Few vs ⊎ TooMany vs
       by more (inl none) =
           let states : States vs (length list) = record { list = list; size = refl; all = λ s i. in-range s (g .all s i); apart = g .apart; every = shown list g none } in
@@ -86,7 +86,7 @@ module _ (vs : List (Reading × List ℕ)) (narrow : length (codesOf vs) ≤ mos
 
   -- there are at most 512 states, or more
   pub few-else-many : Few vs ⊎ TooMany vs
-  few-else-many = gather mostStates ([] ∷ []) refl (record { start = inl refl; all = all; apart = ((λ s i. absurd i), tt) })
+  few-else-many = find-states mostStates ([] ∷ []) refl (record { start = inl refl; all = all; apart = ((λ s i. absurd i), tt) })
     where
       all : (s : List ℕ) → In s ([] ∷ []) → Ranged s
       all s (inl e) = rw e tt

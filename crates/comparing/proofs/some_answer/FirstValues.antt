@@ -19,10 +19,10 @@ use Rattle.comparing.proofs.Order.{before-asym}
 use Rattle.comparing.proofs.some_answer.OneOfEach.{Like, oneOfEach, each-in, each-like, each-ascending, each-first}
 
 -- a value has fewer than n bytes
-abbrev pub Short : ℕ → Value → Type 0
-Short n absent = Unit {0}
-Short n (text s) = length s < n
-Short n (number k) = Unit {0}
+abbrev pub Shorter : ℕ → Value → Type 0
+Shorter n absent = Unit {0}
+Shorter n (text s) = length s < n
+Shorter n (number k) = Unit {0}
 
 -- no column admits both strings and numbers
 not-both : (column : ℕ) (s : List ℕ) (k : ℕ) → Admitted column (text s) → Admitted column (number k) → ⊥
@@ -35,7 +35,7 @@ not-both column s k = by (ltb column 3) (ltb column 7)
     by false false p q = p
 
 -- what a column admits before a short value is short
-short-before : (column n : ℕ) (v w : Value) → Admitted column v → Admitted column w → Before w v → Short n v → Short n w
+short-before : (column n : ℕ) (v w : Value) → Admitted column v → Admitted column w → Before w v → Shorter n v → Shorter n w
 short-before column n v absent ok also less short = tt
 short-before column n v (number k) ok also less short = tt
 short-before column n absent (text s) ok also less short = absurd less
@@ -44,14 +44,14 @@ short-before column n (text u) (text s) ok also (inr p) short = omega (arith, p 
 short-before column n (number k) (text s) ok also less short = absurd (not-both column s k also ok)
 
 -- the short values that a column admits, in order
-pub record AllShort (column n : ℕ) (values : List Value) : Type 0 where
-  pub all : (v : Value) → In v values → Admitted column v × Short n v
+pub record AllShorter (column n : ℕ) (values : List Value) : Type 0 where
+  pub all : (v : Value) → In v values → Admitted column v × Shorter n v
   pub order : Ascending Before values
-  pub every : (v : Value) → Admitted column v → Short n v → In v values
+  pub every : (v : Value) → Admitted column v → Shorter n v → In v values
 
 -- the first of each footprint among them are the first values, where each admitted value is like a short one
-pub firsts-short : (first second : List Statement) (column n : ℕ) (values : List Value) → AllShort column n values
-    → ((v : Value) → Admitted column v → (w : Value) × Admitted column w × Short n w × Alike first second column v w)
+pub firsts-short : (first second : List Statement) (column n : ℕ) (values : List Value) → AllShorter column n values
+    → ((v : Value) → Admitted column v → (w : Value) × Admitted column w × Shorter n w × Alike first second column v w)
     → (list : List Value) × Firsts first second column list
 firsts-short first second column n values a like = (
   oneOfEach print values,
