@@ -12,16 +12,16 @@ use Rattle.stored.specs.Reading.{reading}
 use Rattle.stored.specs.Tables.{Statement}
 use Rattle.stored.specs.Values.{inRange}
 use Rattle.stored.specs.declared.reader.ReadAnswer.the-variants as A
-use Rattle.matching.specs.Codes.{codesOf}
-use Rattle.matching.specs.Rows.{rowOf}
+use Rattle.matching.specs.machinery.Codes.{codesOf}
+use Rattle.matching.specs.machinery.Rows.{rowOf}
 use Rattle.matching.specs.State.{stateOf}
 use Rattle.matching.specs.declared.reading.Reading.{Reading}
 use Rattle.judging.specs.Requests.{Value, text, columns}
 use Rattle.judging.specs.Meaning.{isAllowed}
 use Rattle.judging.specs.Judging.{rowsOf, judgement}
 use Rattle.judging.specs.declared.judge.Judgement.the-variants as J
-use Rattle.states.specs.Rows.{mostStates, rowAt}
-use Rattle.states.specs.Search.{Explored, stringOf}
+use Rattle.states.specs.machinery.Rows.{mostStates, rowAt}
+use Rattle.states.specs.machinery.Search.{Explored, stringOf}
 use Rattle.columns.specs.Values.{valuesIn}
 use Rattle.comparing.specs.Order.{Before, Earlier, In}
 use Rattle.comparing.specs.Requests.{IsRequest}

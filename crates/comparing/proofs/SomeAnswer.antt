@@ -14,16 +14,16 @@ use Rattle.stored.specs.Reading.{reading}
 use Rattle.stored.specs.Tables.{Statement}
 use Rattle.stored.specs.declared.reader.ReadAnswer.{ReadAnswer}
 use Rattle.stored.specs.declared.reader.ReadAnswer.the-variants as A
-use Rattle.matching.specs.Codes.{codesOf}
+use Rattle.matching.specs.machinery.Codes.{codesOf}
 use Rattle.judging.specs.Requests.{Value, columns}
 use Rattle.judging.specs.Judging.{rowsOf}
-use Rattle.states.specs.Rows.{mostStates}
+use Rattle.states.specs.machinery.Rows.{mostStates}
 use Rattle.columns.specs.Values.{valuesIn, sumOf, networksIn}
 use Rattle.columns.proofs.Widths.{codes-sum}
 use Rattle.comparing.specs.Gaps.{Gaps}
 use Rattle.comparing.specs.Columns.{isWide}
 use Rattle.comparing.specs.Compared.{workspaceWords, valueBytes, mostKinds, firstWide, Crowded, Uncrowded, product, FromKinds, FromStates, FromTables, Answered, IsCount, Compared, firstLong, shapeOf, laid, IsShown, IsAnswer, keeps, Shown}
-use Rattle.comparing.specs.Product.{gapsAmong}
+use Rattle.comparing.specs.machinery.Product.{gapsAmong}
 use Rattle.comparing.specs.declared.answers.Counting.{Counting}
 use Rattle.comparing.specs.declared.answers.Counting.the-variants as C
 use Rattle.comparing.specs.declared.answers.Showing.{Showing}

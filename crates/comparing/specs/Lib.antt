@@ -1,12 +1,9 @@
--- What comparing two tables means: it speaks of requests and of the two tables, not of the search.
+-- What comparing two tables means. It speaks of requests and of the two tables.
+-- The promises rest on these definitions, and none of these on machinery.
 pub mod Order
 pub mod Requests
 pub mod Gaps
 pub mod Counts
 pub mod Columns
 pub mod Compared
-pub mod Kinds
-pub mod Product
-pub mod Adding
-pub mod Survey
-pub mod ShownValues
+pub mod machinery

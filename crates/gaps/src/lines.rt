@@ -6,7 +6,8 @@ ghost use Prim.Native.Nat.{_+_, _≤_, _<_};
 ghost use lib.ListN.{length, take};
 ghost use Rattle.judging.specs.Requests.{keyValue, number, absent};
 ghost use Rattle.stored.specs.Choice.{pick};
-ghost use Rattle.gaps.specs.Lines.{ascii, decimalOf, dotted, countLine, refusalLine, shown, neededShown, keysShown, gapLine, valueIn, requestShown, Laid};
+ghost use Rattle.gaps.specs.Lines.{ascii, decimalOf, dotted, countLine, refusalLine, shown, neededShown, keysShown, gapLine, valueIn, requestShown};
+ghost use Rattle.gaps.specs.machinery.Laying.{Laid};
 
 // Bytes that a line has at most.
 pub const LINE: usize = 4096;

@@ -13,7 +13,8 @@ use Rattle.stored.specs.Items.{columnPlace}
 use Rattle.stored.specs.Operators.{rowOf}
 use Rattle.stored.specs.Machine.{freshState, isEnded, isContent, onlyColumn, takesKind, columnPhase, placeDue, countedState, openedState, listedState, filledState, endedState, kindOfItem}
 use Rattle.stored.specs.Reading.{finishOf, stepAt, afterStep, readFrom, reading}
-use Rattle.stored.specs.Entries.{Entry, entryOf, itemOf, bytesOf, entriesFrom, entriesOf, admit, Follows, Accepted}
+use Rattle.stored.specs.Entries.{Entry, entryOf, itemOf, bytesOf, entriesFrom, entriesOf}
+use Rattle.stored.specs.machinery.Following.{admit, Follows, Accepted}
 use Rattle.stored.specs.Entries.Entry.{start, statement, column, condition, network, value, end}
 use Rattle.stored.specs.Tables.{Element, Statement, gather, tableOf}
 use Rattle.stored.specs.declared.items.Column.{Column}

@@ -9,7 +9,7 @@ use lib.Dec.{eqb}
 use lib.ListN.{length}
 use borrow.Author.Tests.{eqb-true, eqb-false}
 use Rattle.judging.specs.Requests.{text}
-use Rattle.states.specs.Rows.{IsByte}
+use Rattle.states.specs.machinery.Rows.{IsByte}
 use Rattle.comparing.specs.Order.{Before, In, Ascending}
 use Rattle.comparing.proofs.Members.{in-joined, in-left, in-right, ascending-joined}
 use Rattle.comparing.proofs.Ranks.{Ranged}

@@ -10,19 +10,19 @@ use lib.Dec.{ltb}
 use lib.ListN.{length, length-append}
 use borrow.Author.Tests.{ltb-true, ltb-false}
 use Rattle.stored.specs.Tables.{Statement}
-use Rattle.matching.specs.Codes.{codesOf}
+use Rattle.matching.specs.machinery.Codes.{codesOf}
 use Rattle.matching.specs.State.{stateOf}
-use Rattle.matching.specs.Rows.{forward}
+use Rattle.matching.specs.machinery.Rows.{forward}
 use Rattle.matching.proofs.States.{backward}
 use Rattle.judging.specs.Requests.{Value, absent, text, number, columns}
-use Rattle.states.specs.Rows.{mostStates}
+use Rattle.states.specs.machinery.Rows.{mostStates}
 use Rattle.columns.specs.Values.{valuesIn}
 use Rattle.comparing.specs.Order.{Before, In, Ascending}
 use Rattle.comparing.specs.Requests.{Admitted, AdmitsNeeded}
 use Rattle.comparing.specs.Gaps.{Alike}
 use Rattle.comparing.specs.Columns.{IsString, Few}
 use Rattle.comparing.specs.Compared.{Uncrowded}
-use Rattle.comparing.specs.Product.{Firsts, AllFirsts}
+use Rattle.comparing.specs.machinery.Product.{Firsts, AllFirsts}
 use Rattle.comparing.proofs.Members.{in-mapped, mapped-in, ascending-mapped}
 use Rattle.comparing.proofs.Ranks.{ranged, in-range, ranged-append, ranged-forward, ranged-backward}
 use Rattle.comparing.proofs.Deciding.{state-decides}

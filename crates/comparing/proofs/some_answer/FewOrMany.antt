@@ -12,12 +12,12 @@ use lib.ListN.{length}
 use borrow.Author.Tests.{eqb-true, eqb-false}
 use Rattle.stored.specs.Tables.{Statement}
 use Rattle.matching.specs.declared.reading.Reading.{Reading}
-use Rattle.matching.specs.Codes.{codesOf}
+use Rattle.matching.specs.machinery.Codes.{codesOf}
 use Rattle.matching.specs.State.{stateOf}
-use Rattle.matching.specs.Rows.{stepRow, forward}
+use Rattle.matching.specs.machinery.Rows.{stepRow, forward}
 use Rattle.matching.proofs.States.{backward, row-step}
 use Rattle.matching.proofs.Columns.{same-state, same-row}
-use Rattle.states.specs.Rows.{mostStates}
+use Rattle.states.specs.machinery.Rows.{mostStates}
 use Rattle.columns.specs.Values.{valuesIn}
 use Rattle.comparing.specs.Order.{In}
 use Rattle.comparing.specs.Counts.{Apart}

@@ -14,7 +14,7 @@ use Rattle.judging.specs.Requests.{Value, absent, text, number}
 use Rattle.comparing.specs.Order.{Before, In, Ascending}
 use Rattle.comparing.specs.Requests.{Admitted, AdmitsNeeded, AdmitsOptional, AdmitsAddress}
 use Rattle.comparing.specs.Gaps.{footprint, Alike}
-use Rattle.comparing.specs.Product.{Firsts}
+use Rattle.comparing.specs.machinery.Product.{Firsts}
 use Rattle.comparing.proofs.Order.{before-asym}
 use Rattle.comparing.proofs.some_answer.OneOfEach.{Like, oneOfEach, each-in, each-like, each-ascending, each-first}
 

@@ -4,7 +4,7 @@ use mathlib.Core.Bool.{Bool, true, false, true≢false, Bool-discrete}
 use mathlib.Core.List.{List, [], _∷_, List-discrete}
 use mathlib.Core.Logic.{_⊎_, inl, inr}
 use Rattle.comparing.specs.Order.{In, Ascending}
-use Rattle.comparing.specs.Product.{keep}
+use Rattle.comparing.specs.machinery.Product.{keep}
 use Rattle.comparing.proofs.Members.{in-kept, kept-in, ascending-kept}
 
 -- a decision as a test that it is no
