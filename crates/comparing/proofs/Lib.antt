@@ -23,4 +23,6 @@ pub mod Outcomes
 pub mod Means
 pub mod Requests
 pub mod SearchPromises
+pub mod some_answer
+pub mod SomeAnswer
 pub mod Promises
