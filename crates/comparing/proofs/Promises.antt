@@ -1,18 +1,24 @@
 -- What comparing promises, in statements that can be read without their proofs. `Compared` and `Shown` are what the two questions may
 -- answer: the number of gaps of two tables, and gap k; `judgement` is what the judge answers. A request has eight columns, and its strings
 -- may be of any length. `AlikeFrom .. 0` says that every statement of both tables holds alike of two requests, column by column.
-use Prim.Native.Nat.{ℕ}
+use Prim.Native.Nat.{ℕ, _<_}
 use mathlib.Core.Path.{_≡_}
-use mathlib.Core.List.{List, _++_}
+use mathlib.Core.Bool.{true, false}
+use mathlib.Core.List.{List, [], _++_}
 use mathlib.Core.Logic.{_↔_}
+use lib.ListN.{length, getD}
+use Rattle.stored.specs.Reading.{reading}
 use Rattle.stored.specs.Tables.{Statement}
+use Rattle.stored.specs.declared.reader.ReadAnswer.the-variants as A
 use Rattle.matching.specs.State.{stateOf}
 use Rattle.judging.specs.Requests.{Value, text}
+use Rattle.judging.specs.Meaning.{isAllowed}
 use Rattle.judging.specs.Judging.{rowsOf, judgement}
 use Rattle.judging.specs.declared.judge.Judgement.the-variants as J
 use Rattle.columns.specs.Values.{valuesIn}
+use Rattle.comparing.specs.Order.{Earlier, In}
 use Rattle.comparing.specs.Requests.{IsRequest}
-use Rattle.comparing.specs.Gaps.{footprint, AlikeFrom}
+use Rattle.comparing.specs.Gaps.{footprint, AlikeFrom, Gaps, Counted, IsGap}
 use Rattle.comparing.specs.Compared.{Compared, Shown}
 use Rattle.comparing.specs.Outcomes.{CountOutcome, orderOfCount, GapOutcome, orderOfGap}
 use Rattle.comparing.specs.Means.{CountMeans, ShownMeans, Said, NotRefused}
@@ -25,6 +31,8 @@ use Rattle.comparing.proofs.Requests
 use Rattle.comparing.proofs.Means
 use Rattle.comparing.proofs.Outcomes
 use Rattle.comparing.proofs.OneAnswer
+use Rattle.comparing.proofs.SomeAnswer
+use Rattle.comparing.proofs.GapList
 use Rattle.comparing.proofs.Judged
 use Rattle.comparing.proofs.Deciding
 
@@ -86,6 +94,14 @@ pub one-answer-shown : (k : ℕ) (buffer : List ℕ) (room : ℕ) (a b : List �
     → Shown room a b k buffer r → Shown room a b k buffer s → r ≡ s
 one-answer-shown = OneAnswer.shown-one
 
+-- And there is one: no workspace, no two byte strings, no number and no value buffer are left without an outcome. With `refused-exactly` and
+-- `one-case` exactly one case holds for every input.
+pub some-answer : (room : ℕ) (a b : List ℕ) → (r : Counting) × Compared room a b r
+some-answer = SomeAnswer.some-answer
+
+pub some-answer-shown : (room : ℕ) (a b : List ℕ) (k : ℕ) (buffer : List ℕ) → (r : Showing × List ℕ) × Shown room a b k buffer r
+some-answer-shown = SomeAnswer.some-answer-shown
+
 -- What alike means: the judge answers the same for two requests that are alike, by either table, refusals included.
 pub alike-judged-alike : (a b : List ℕ) (r s : List Value) → IsRequest r → IsRequest s → AlikeFrom (rowsOf a) (rowsOf b) 0 r s
     → (judgement a r ≡ judgement a s) × (judgement b r ≡ judgement b s)
@@ -96,3 +112,24 @@ pub state-decides : (first second : List Statement) (column : ℕ) (s u : List �
     → stateOf (valuesIn column (first ++ second)) s ≡ stateOf (valuesIn column (first ++ second)) u
     → footprint first second column (text s) ≡ footprint first second column (text u)
 state-decides = Deciding.state-decides
+
+-- The list of gaps itself (`Gaps`; `Counted` says how many there are, `IsGap` which is gap k): it is complete, it has each kind once, each is
+-- shown by a request, and it is empty exactly when there is none.
+pub gaps-complete : (first second : List Statement) (list : List (List Value)) → Gaps first second list
+    → (r : List Value) → IsRequest r → isAllowed r first ≡ true → isAllowed r second ≡ false
+    → (s : List Value) × In s list × AlikeFrom first second 0 r s
+gaps-complete = GapList.gaps-complete
+
+pub gaps-once : (first second : List Statement) (list : List (List Value)) → Gaps first second list
+    → (i j : ℕ) → i < j → j < length list
+    → Earlier (getD list i []) (getD list j []) × (AlikeFrom first second 0 (getD list i []) (getD list j []) → ⊥)
+gaps-once = GapList.gaps-once
+
+pub gap-shows : (a b : List ℕ) (m n : ℕ) → reading a ≡ A.Accepted m → reading b ≡ A.Accepted n
+    → (k : ℕ) (r : List Value) → IsGap (rowsOf a) (rowsOf b) k r
+    → (judgement a r ≡ J.Allowed) × (judgement b r ≡ J.Allowed → ⊥)
+gap-shows = GapList.gap-shows
+
+pub none-exactly : (a b : List ℕ) (m n : ℕ) → reading a ≡ A.Accepted m → reading b ≡ A.Accepted n
+    → Counted (rowsOf a) (rowsOf b) 0 ↔ ((r : List Value) → IsRequest r → judgement a r ≡ J.Allowed → judgement b r ≡ J.Allowed)
+none-exactly = GapList.none-judged
