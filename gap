@@ -14,7 +14,7 @@ usage: ./gap FIRST SECOND     compare two tables, each in a file
 It prints `gaps N`, how many kinds of request the first table allows and the second does not, then the first 16 of them, one a
 line: number, p= principal, a= action, r= resource, and where the request has them k0= aws:SourceVpc, k1= s3:prefix,
 k2= aws:SourceVpce, k3= aws:Referer, ip= aws:SourceIp. Or it prints `refused`, the number of the refusal, the table (1, 2, or 0
-for the comparison) and the place. docs/REFUSALS.md has the numbers.
+for the comparison) and the place. docs/RULES.md, 7, has the numbers.
 
 A file whose name ends in .hex is hex text: two digits a byte, spaces where you like, and # begins a comment. Any other file is
 taken as it is. The status is 0 when the program has answered, a refusal included, and 2 when it was not run.

@@ -1,4 +1,4 @@
-// Runs the bench list of document 01: the lines marked P by matching and judging, the others, which stand on standard input, by
+// Runs the bench list (RULES 10): the lines marked P by matching and judging, the others, which stand on standard input, by
 // comparing. Each line is printed in its own words, and below it what came out.
 mod marked;
 

@@ -1,4 +1,4 @@
--- The answers of the comparison, in document 01's order: 14, first table, second table, 10 by column, 11 by column, 12, then the number of
+-- The answers of the comparison, in the order of RULES 7.3: 14, first table, second table, 10 by column, 11 by column, 12, then the number of
 -- gaps; and for a gap asked for: 13, 15, then its values.
 use Prim.Native.Nat.{ℕ, zero, suc, _+_, _-_, _*_, _<_}
 use mathlib.Core.Path.{_≡_}

@@ -1,4 +1,4 @@
--- Kinds of request, and the gaps: the kinds that the first table allows and the second does not (document 01, "Comparing").
+-- Kinds of request, and the gaps: the kinds that the first table allows and the second does not (RULES 6).
 use Prim.Native.Nat.{ℕ, suc, _<_}
 use mathlib.Core.Path.{_≡_}
 use mathlib.Core.Bool.{Bool, true, false}

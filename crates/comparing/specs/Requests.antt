@@ -1,4 +1,4 @@
--- The requests that comparing speaks of: eight columns, each with an admitted value (document 01, "Requests").
+-- The requests that comparing speaks of: eight columns, each with an admitted value (RULES 1).
 use Prim.Native.Nat.{ℕ, suc, _<_, _^_}
 use mathlib.Core.Path.{_≡_}
 use mathlib.Core.Bool.{true}

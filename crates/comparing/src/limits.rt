@@ -1,4 +1,4 @@
-// The limits of a comparison (document 01, "Comparing" and "Numbers for no"); that of the states of a column is states::limits::MOST_STATES.
+// The limits of a comparison (RULES 6 and 7.3); that of the states of a column is states::limits::MOST_STATES.
 
 // Words of a workspace, at least.
 pub const WORKSPACE_WORDS: usize = 8192;

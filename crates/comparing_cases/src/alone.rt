@@ -1,5 +1,5 @@
 // The two questions with lent buffers that are too short, just long enough or longer, and with a k past the last gap. The tables
-// are those of document 01 in "The gap program", which have one gap.
+// are those of RULES 8, which have one gap.
 use cases::same::are_bytes;
 use cases::same::are_words;
 use cases::text::part_of;

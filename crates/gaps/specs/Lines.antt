@@ -1,4 +1,4 @@
--- The lines that the gap program prints, each with its line feed (document 01, "The gap program").
+-- The lines that the gap program prints, each with its line feed (RULES 8).
 use Prim.Native.Nat.{ℕ, zero, suc, _+_, _/_, _%_}
 use Prim.Native.Char.{code}
 use Prim.Native.String.{String, [] as empty, _∷_ as _then_}

@@ -1,5 +1,5 @@
 -- Where the first of two tables that stand one behind the other ends: with the first record 05 met by walking kinds. Kinds and
--- sizes alone are looked at; if the walk meets no 05, all input is the first table (document 01, "The gap program").
+-- sizes alone are looked at; if the walk meets no 05, all input is the first table (RULES 8).
 use Prim.Native.Nat.{ℕ, zero, suc, _+_, _-_}
 use mathlib.Core.List.{List}
 use lib.Dec.{ltb}

@@ -91,7 +91,7 @@ pub by-column : (request : List Value) (s : Statement)
     && holds 7 (columnOf request 7) s)
 by-column = ByColumn.by-column
 
--- The lines marked P of document 01's bench list, each with what it must be; 42 is `*`, 63 is `?`.
+-- The lines marked P of the bench list (RULES 10), each with what it must be; 42 is `*`, 63 is `?`.
 abbrev pub bench : List (Bool × Bool)
 bench =
     -- `s*s*s*s` refuses `ss`, takes `ssss`

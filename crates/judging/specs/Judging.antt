@@ -1,4 +1,4 @@
--- The judge's answer (document 01, "What matches what" and "Order"): the table's refusal, then 9 by column, then the verdict.
+-- The judge's answer (RULES 5 and 7.3): the table's refusal, then 9 by column, then the verdict.
 use Prim.Native.Nat.{ℕ}
 use mathlib.Core.List.{List}
 use lib.Dec.{ltb}

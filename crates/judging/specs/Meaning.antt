@@ -1,4 +1,4 @@
--- What a statement says of a request (document 01, "What matches what"; source 002, equations 1 to 3; Not-forms by source 001).
+-- What a statement says of a request (RULES 4 and 5; source 002, equations 1 to 3; Not-forms by source 001).
 use Prim.Native.Nat.{ℕ, _+_}
 use mathlib.Core.Bool.{Bool, true, false, not, _&&_}
 use mathlib.Core.List.{List}

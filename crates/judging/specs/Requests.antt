@@ -1,4 +1,4 @@
--- A request: eight columns, 0 principal, 1 action, 2 resource, 3 to 6 the string keys, 7 the address (document 01, "Requests").
+-- A request: eight columns, 0 principal, 1 action, 2 resource, 3 to 6 the string keys, 7 the address (RULES 1).
 use Prim.Native.Nat.{ℕ, suc}
 use mathlib.Core.Bool.{Bool, true, false, not, _&&_, _||_}
 use mathlib.Core.List.{List, [], _∷_}

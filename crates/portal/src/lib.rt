@@ -142,7 +142,7 @@ pub extern "C" fn stamenhum_gaps(first: &[u8], second: &[u8]) -> u64
     counting_code(gap_count(&mut workspace, first, second))
 }
 
-// What is gap k? Its values are laid down in the buffer as document 01 says.
+// What is gap k? Its values are laid down in the buffer as RULES 6.5 says.
 #[no_mangle]
 pub extern "C" fn stamenhum_gap(first: &[u8], second: &[u8], k: u64, values: &mut [u8]) -> u64
     ensures { λ r. ⌜ Shows (now (first .entry)) (now (second .entry)) k (now (values .entry)) r (now (values .exit)) ⌝ }

@@ -1,4 +1,4 @@
-// How many states a column may have (document 01, "Numbers for no"), the bytes of strings, and how the workspace is laid out.
+// How many states a column may have (RULES 7.3), the bytes of strings, and how the workspace is laid out.
 
 // The states of a column.
 pub const MOST_STATES: usize = 512;

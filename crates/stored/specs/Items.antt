@@ -1,4 +1,4 @@
--- The codes of effects, columns and keys (document 01, "Stored tables").
+-- The codes of effects, columns and keys (RULES 2).
 use Prim.Native.Nat.{ℕ}
 use mathlib.Core.Bool.{Bool, true, false}
 use lib.Dec.{eqb}

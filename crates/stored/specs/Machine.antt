@@ -1,4 +1,4 @@
--- The one state machine, for the reader and the writer, split as document 01's order is: what the kind alone decides (4 after the
+-- The one state machine, for the reader and the writer, split as the order of RULES 7.1 is: what the kind alone decides (4 after the
 -- end, 3, 5, 4), and what the whole record decides (4 for a column, 6, 7, 8).
 use Prim.Native.Nat.{ℕ, _+_, _-_}
 use mathlib.Core.Bool.{Bool, true, false, not, _&&_, _||_}

@@ -1,4 +1,4 @@
--- What a network may be (document 01, "What matches what").
+-- What a network may be (RULES 2.6).
 use Prim.Native.Nat.{ℕ, _-_, _%_, _^_}
 use mathlib.Core.Bool.{Bool, _&&_}
 use lib.Dec.{eqb, leb}

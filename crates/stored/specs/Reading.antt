@@ -1,4 +1,4 @@
--- Reading a table: 1 over 16,384 bytes, then the first faulty record, or the number of statements (document 01, "Order").
+-- Reading a table: 1 over 16,384 bytes, then the first faulty record, or the number of statements (RULES 7.1).
 use Prim.Native.Nat.{ℕ, zero, suc, _+_}
 use mathlib.Core.List.{List}
 use lib.Dec.{eqb, ltb}

@@ -1,4 +1,4 @@
--- A record: one byte of kind, then a body whose length the kind fixes (document 01, "Stored tables").
+-- A record: one byte of kind, then a body whose length the kind fixes (RULES 2).
 use Prim.Native.Nat.{ℕ, _+_, _-_, _*_}
 use mathlib.Core.Bool.{_&&_}
 use mathlib.Core.List.{List}

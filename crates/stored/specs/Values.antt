@@ -1,4 +1,4 @@
--- What the bytes of a value may be (document 01, "Numbers for no", 7 and 8).
+-- What the bytes of a value may be (RULES 7.1, 7 and 8).
 use Prim.Native.Nat.{ℕ}
 use mathlib.Core.Bool.{Bool, false, _&&_, _||_}
 use mathlib.Core.List.{List, [], _∷_}

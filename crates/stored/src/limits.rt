@@ -1,4 +1,4 @@
-// The limits of a stored table (document 01, "Stored tables").
+// The limits of a stored table (RULES 2).
 
 // Bytes of a table.
 pub const MOST_BYTES: usize = 16384;

@@ -1,4 +1,4 @@
-// What a network may be (document 01, "What matches what" and "Numbers for no", 8).
+// What a network may be (RULES 2.6 and 7.1, 8).
 ghost use mathlib.Core.Path.{_≡_};
 ghost use Rattle.stored.specs.Networks.{networkSound};
 

@@ -1,4 +1,4 @@
-// What the kind of a record decides alone (document 01, "Order": 4 after the end, 3, 5, 4).
+// What the kind of a record decides alone (RULES 7.1: 4 after the end, 3, 5, 4).
 use crate::machine::Phase;
 use crate::machine::State;
 use crate::machine::is_ended;

@@ -1,4 +1,4 @@
-// What a whole record decides, once its kind is in turn (document 01, "Order": 4 for a column, 6, 7, 8), and the state behind it.
+// What a whole record decides, once its kind is in turn (RULES 7.1: 4 for a column, 6, 7, 8), and the state behind it.
 use crate::items::Column;
 use crate::items::Item;
 use crate::items::Key;

@@ -1,4 +1,4 @@
-// What the bytes of a value may be (document 01, "Numbers for no", 7 and 8). No byte ends a loop here, so that the compiler may look at
+// What the bytes of a value may be (RULES 7.1, 7 and 8). No byte ends a loop here, so that the compiler may look at
 // many bytes at once.
 ghost use mathlib.Core.Path.{_≡_};
 ghost use Rattle.stored.specs.Values.{byteInRange, inRange, isWildcard, hasVariable, hasWildcard, isStarAlone};

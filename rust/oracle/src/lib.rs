@@ -1,4 +1,4 @@
-//! An independent second opinion on document 01, written from its text alone and for plainness:
+//! An independent second opinion on the rules (RULES), written apart from the verified crates and for plainness:
 //! slow where that is clearer, and sharing neither code nor tables with the verified crates.
 
 pub mod compare;

@@ -1,4 +1,4 @@
-//! The numbers of document 01.
+//! The numbers of RULES.
 
 /// A table is at most this many bytes (refusal 1).
 pub const TABLE_BYTES: usize = 16_384;

@@ -28,7 +28,7 @@ pub fn compare<'a>(first: &'a [u8], second: &'a [u8]) -> Result<Gaps<'a>, Refusa
     Ok(Gaps { first, second, count })
 }
 
-/// The gaps between two tables, in the order of document 01. Only their number is held here: each gap is asked for
+/// The gaps between two tables, in the order of RULES 6.4. Only their number is held here: each gap is asked for
 /// when it is wanted, and each question costs about as much as the comparison itself.
 #[derive(Clone, Copy, Debug, PartialEq, Eq)]
 pub struct Gaps<'a> {
@@ -77,7 +77,7 @@ impl fmt::Display for Gaps<'_> {
     }
 }
 
-/// The gaps one by one. A question may be refused by 15 alone, and document 01 lets the others still be asked.
+/// The gaps one by one. A question may be refused by 15 alone, and the others can still be asked (RULES 7.3).
 #[derive(Clone, Debug)]
 pub struct GapsIter<'a> {
     gaps: Gaps<'a>,

@@ -3,7 +3,7 @@
 //! The numbers they answer are decoded by the rest of this package; a caller has no need of them. A slice passes as
 //! two arguments, pointer and number of bytes. (A Rust slice in `extern "C"` would be one aggregate, and go wrong.)
 
-/// The room that a gap's seven strings need (document 01, "Comparing").
+/// The room that a gap's seven strings need (RULES 6).
 pub const VALUES_BYTES: usize = 3_584;
 
 #[link(name = "portal", kind = "static")]

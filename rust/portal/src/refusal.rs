@@ -1,4 +1,4 @@
-//! Why an answer was refused, and where: document 01, "Numbers for no".
+//! Why an answer was refused, and where: RULES 7.
 
 use std::error::Error;
 use std::fmt;

@@ -1,4 +1,4 @@
-//! The bench list of document 01: what goes in, and what must come out.
+//! The bench list (RULES 10): what goes in, and what must come out.
 
 use crate::build::*;
 

@@ -1,4 +1,4 @@
-//! Tables written out from the record table of document 01.
+//! Tables written out from the record table of RULES 2.1.
 
 pub const ALLOW: u8 = 1;
 pub const DENY: u8 = 0;

@@ -4,7 +4,7 @@ use oracle::limits;
 use oracle::table::{Condition, Effect, Element, Key, Network, Operator, Statement, Table};
 use oracle::Writer;
 
-/// Operator codes of document 01.
+/// Operator codes (RULES 2.4).
 pub const STRING_EQUALS: u8 = 1;
 pub const STRING_NOT_EQUALS: u8 = 2;
 pub const STRING_LIKE: u8 = 3;

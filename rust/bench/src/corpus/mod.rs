@@ -77,7 +77,7 @@ impl Pair {
 pub struct Drawn {
     pub family: Family,
     pub pairs: Vec<Pair>,
-    /// Pairs that were drawn and left out, since they are past a limit of document 01.
+    /// Pairs that were drawn and left out, since they are past a limit of RULES 7.3.
     pub past_limits: usize,
 }
 

@@ -1,4 +1,4 @@
-//! The worst cases that the limits of document 01 let through.
+//! The worst cases that the limits of RULES 7.3 let through.
 
 use oracle::limits;
 use oracle::table::{Key, Statement};

@@ -27,7 +27,7 @@ pub enum Values {
 pub enum Alphabet {
     /// Any string of the solver's, as in both sources.
     Any,
-    /// Strings of the bytes 21 to 7E, as in document 01.
+    /// Strings of the bytes 21 to 7E (RULES 1.2).
     Exact,
 }
 
@@ -146,7 +146,7 @@ fn element_holds(column: usize, element: &Element, values: Values) -> String {
     }
 }
 
-/// 002, equation (3), with document 01's "none matches" for negated operators.
+/// 002, equation (3), with "none matches" for negated operators (RULES 5.2).
 fn condition_holds(condition: &Condition, values: Values) -> String {
     let variable = VARIABLES[condition.key.column()];
     let parts = match condition.operator.test {

@@ -1,4 +1,4 @@
-//! The gap program of document 01, as the oracle answers it.
+//! The gap program (RULES 8), as the oracle answers it.
 
 use std::io::{self, Read, Write};
 

@@ -11,7 +11,7 @@ pub use reader::{read, read_items};
 pub use records::{record_length, Kind};
 pub use writer::Writer;
 
-/// Why and where: document 01, "Numbers for no".
+/// Why and where: RULES 7.
 #[derive(Clone, Copy, Debug, PartialEq, Eq, Hash)]
 pub struct Refusal {
     pub number: u8,

@@ -40,7 +40,7 @@ impl Progress {
         self.turn == Turn::Ended
     }
 
-    /// The record at the start of `rest`, its length, and the progress behind it, in the order of document 01:
+    /// The record at the start of `rest`, its length, and the progress behind it, in the order of RULES 7.1:
     /// after 05, unknown kind, empty list, out of turn, cut, unknown code, then `check_item`.
     pub fn admit(&self, rest: &[u8]) -> Result<(Item, usize, Progress), u8> {
         if self.is_ended() {

@@ -1,4 +1,4 @@
-//! The bench list of document 01.
+//! The bench list (RULES 10).
 
 use crate::build::*;
 use oracle::compare::states::{explore, values_of_column};

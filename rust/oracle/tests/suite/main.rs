@@ -1,4 +1,4 @@
-//! The tests of the oracle, by the headings of document 01.
+//! The tests of the oracle, by the sections of RULES.
 
 mod bench_list;
 mod build;

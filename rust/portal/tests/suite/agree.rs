@@ -32,7 +32,7 @@ pub fn judged(table: &[u8], request: &Request) -> Result<Verdict, Refusal> {
     answer
 }
 
-/// A refusal as document 01's number for it.
+/// A refusal as its number in RULES 7.
 pub fn refusal_number(refusal: &CompareRefusal) -> u64 {
     u64::from(refusal.table) << 48 | u64::from(refusal.number) << 32 | refusal.place as u64
 }

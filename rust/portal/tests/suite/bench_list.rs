@@ -1,4 +1,4 @@
-//! The bench list of document 01, through the entry points.
+//! The bench list (RULES 10), through the entry points.
 
 use std::net::Ipv4Addr;
 
@@ -44,7 +44,7 @@ fn networks_against_addresses() {
     assert!(is_allowed(&with(IP_ADDRESS + IF_EXISTS), &request));
 }
 
-/// As document 01 says, and as the oracle says.
+/// As RULES 10 says, and as the oracle says.
 #[test]
 fn every_comparison() {
     for line in bench::comparisons() {

@@ -17,7 +17,7 @@ const MOST_KINDS: usize = 1_500;
 #[derive(Clone, Debug, PartialEq, Eq, PartialOrd, Ord)]
 enum Admitted {
     Absent,
-    // The order of document 01: shorter first, then smaller bytes.
+    // The order of RULES 6.3: shorter first, then smaller bytes.
     String(usize, Vec<u8>),
     Address(u32),
 }

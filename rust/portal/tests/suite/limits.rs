@@ -1,4 +1,4 @@
-//! Tables at every limit of document 01, and one past it.
+//! Tables at every limit of RULES 7, and one past it.
 
 use crate::agree::{compared, judged};
 use portal::{Refusal, Request, Verdict};

@@ -1,4 +1,4 @@
-//! The entry points of the verified library held against the oracle, and against document 01's own examples.
+//! The entry points of the verified library held against the oracle, and against the examples of RULES 8 and 10.
 
 mod agree;
 mod bench_list;
