@@ -16,4 +16,5 @@ pub mod Pigeonhole
 pub mod Refusals
 pub mod OneAnswer
 pub mod GapList
+pub mod FewGaps
 pub mod Promises

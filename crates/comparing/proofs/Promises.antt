@@ -35,6 +35,7 @@ use Rattle.comparing.proofs.Deciding
 use Rattle.comparing.proofs.AllStates
 use Rattle.comparing.proofs.Exploring
 use Rattle.comparing.proofs.GapList
+use Rattle.comparing.proofs.FewGaps
 use Rattle.comparing.proofs.OneAnswer
 use Rattle.comparing.proofs.Refusals
 
@@ -84,6 +85,11 @@ gap-shows = GapList.gap-shows
 pub none-exactly : (a b : List ℕ) (m n : ℕ) → reading a ≡ A.Accepted m → reading b ≡ A.Accepted n
     → Counted (rowsOf a) (rowsOf b) 0 ↔ ((r : List Value) → IsRequest r → judgement a r ≡ J.Allowed → judgement b r ≡ J.Allowed)
 none-exactly = GapList.none-judged
+
+-- A gap is a kind of request, so there are no more gaps than kinds: at most the product of the eight numbers of footprints.
+pub few-gaps : (first second : List Statement) (n : ℕ) (counts : List ℕ) → Counted first second n → CountsFrom first second 0 counts
+    → n ≤ product counts
+few-gaps = FewGaps.few-gaps
 
 -- "For each input a public function's contract leaves one possible answer and one possible content of the memory lent to it": any two
 -- outcomes that `Compared` permits are equal, and any two that `Shown` permits, the value buffer included. (What the workspace holds is an
