@@ -5,6 +5,7 @@ use mathlib.Core.Path.{_≡_}
 use mathlib.Core.List.{List, [], _∷_}
 use mathlib.Core.Logic.{_⊎_}
 use lib.ListN.{length}
+pub use Rattle.stored.specs.Choice.{In}
 use Rattle.judging.specs.Requests.{Value, absent, text, number}
 
 -- the first byte that differs is smaller
@@ -30,11 +31,6 @@ abbrev pub Earlier : List Value → List Value → Type 0
 Earlier [] s = ⊥
 Earlier (v ∷ r) [] = ⊥
 Earlier (v ∷ r) (w ∷ s) = Before v w ⊎ ((v ≡ w) × Earlier r s)
-
--- x is in a list
-abbrev pub In : {A : Type 0} → A → List A → Type 0
-In x [] = ⊥
-In x (y ∷ l) = (x ≡ y) ⊎ In x l
 
 -- each element comes before all that follow
 abbrev pub Ascending : {A : Type 0} → (A → A → Type 0) → List A → Type 0

@@ -5,18 +5,14 @@ use lib.Bits.{bitAnd}
 use lib.Dec.{eqb, ltb}
 use Rattle.stored.specs.Choice.{pick}
 use Rattle.stored.specs.Reading.{reading}
-use Rattle.stored.specs.Entries.{entriesOf}
-use Rattle.stored.specs.Tables.{Statement, tableOf}
+use Rattle.stored.specs.Tables.{Statement}
+pub use Rattle.stored.specs.Tables.{rowsOf}
 use Rattle.stored.specs.declared.reader.ReadAnswer.{ReadAnswer}
 use Rattle.stored.specs.declared.reader.ReadAnswer.the-variants as A
 use Rattle.judging.specs.Requests.{Value, firstFault, columns}
 use Rattle.judging.specs.Meaning.{someAllows, someDenies}
 use Rattle.judging.specs.declared.judge.Judgement.{Judgement}
 use Rattle.judging.specs.declared.judge.Judgement.the-variants as J
-
--- the statements of a table
-abbrev pub rowsOf : List ℕ → List Statement
-rowsOf t = tableOf (entriesOf t)
 
 -- DeniedByRule where some deny applies, Allowed where some allow does and no deny, NotMentioned where no statement applies
 abbrev pub verdict : List Value → List Statement → Judgement

@@ -1,5 +1,5 @@
 -- A table that reads: the state machine takes its entries one after the other to the end, so that the rows are as many as announced,
--- at most 32, and each has its three elements in order.
+-- at most 32.
 use Prim.Native.Nat.{ℕ, zero, suc, _+_, _-_, _≤_, _<_}
 use mathlib.Core.Path.{_≡_, refl, sym, _∙_, ap}
 use mathlib.Core.Bool.{Bool, true, false}
@@ -9,17 +9,15 @@ use lib.Dec.{ltb}
 use lib.ListN.{length, take, drop}
 use borrow.Author.Tests.{ltb-true, ltb-false, eqb-true}
 use Rattle.stored.specs.Choice.{pick}
-use Rattle.stored.specs.Items.{columnPlace}
 use Rattle.stored.specs.Operators.{rowOf}
-use Rattle.stored.specs.Machine.{freshState, isEnded, isContent, onlyColumn, takesKind, columnPhase, placeDue, countedState, openedState, listedState, filledState, endedState, kindOfItem}
+use Rattle.stored.specs.Machine.{freshState, isEnded, takesKind, columnPhase, countedState, openedState, listedState, filledState, endedState, kindOfItem}
 use Rattle.stored.specs.Reading.{finishOf, stepAt, afterStep, readFrom, reading}
 use Rattle.stored.specs.Entries.{Entry, entryOf, itemOf, bytesOf, entriesFrom, entriesOf, admit, Follows, Accepted}
 use Rattle.stored.specs.Entries.Entry.{start, statement, column, condition, network, value, end}
-use Rattle.stored.specs.Tables.{Element, Statement, gather, tableOf}
+use Rattle.stored.specs.Tables.{tableOf}
 use Rattle.stored.specs.declared.items.Column.{Column}
 use Rattle.stored.specs.declared.items.Column.the-variants as C
 use Rattle.stored.specs.declared.items.Sort.the-variants as O
-use Rattle.stored.specs.declared.records.Kind.{Kind}
 use Rattle.stored.specs.declared.records.Kind.the-variants as K
 use Rattle.stored.specs.declared.machine.Phase.{Phase}
 use Rattle.stored.specs.declared.machine.Phase.the-variants as P
@@ -112,7 +110,7 @@ accepted t n e =
     let l = read-leads t n e in
     follows (entriesOf t) freshState (l .last) (l .leads) (l .ended)
 
-abbrev isFresh : Phase → Bool
+abbrev pub isFresh : Phase → Bool
 isFresh P.Fresh = true
 isFresh P.Counted = false
 isFresh P.Opened = false
@@ -123,7 +121,7 @@ isFresh P.Conditions = false
 isFresh P.Ended = false
 
 -- record 01 comes first, and nothing else does
-start-first : (p : Phase) (left : ℕ) → takesKind p left K.Start ≡ true → isFresh p ≡ true
+pub start-first : (p : Phase) (left : ℕ) → takesKind p left K.Start ≡ true → isFresh p ≡ true
 start-first P.Fresh left e = refl
 start-first P.Counted left e = e
 start-first P.Opened left e = e
@@ -134,7 +132,7 @@ start-first P.Conditions left e = e
 start-first P.Ended left e = e
 
 -- a statement begins while some are left
-statement-left : (p : Phase) (left : ℕ) → takesKind p left K.Statement ≡ true → 0 < left
+pub statement-left : (p : Phase) (left : ℕ) → takesKind p left K.Statement ≡ true → 0 < left
 statement-left P.Fresh left e = never (cc)
 statement-left P.Counted left e = ltb-true 0 left e
 statement-left P.Opened left e = never (cc)
@@ -145,7 +143,7 @@ statement-left P.Conditions left e = ltb-true 0 left e
 statement-left P.Ended left e = never (cc)
 
 -- the end comes when none is left
-end-left : (p : Phase) (left : ℕ) → takesKind p left K.End ≡ true → left ≡ 0
+pub end-left : (p : Phase) (left : ℕ) → takesKind p left K.End ≡ true → left ≡ 0
 end-left P.Fresh left e = never (cc)
 end-left P.Counted left e = eqb-true left 0 e
 end-left P.Opened left e = never (cc)
@@ -155,7 +153,7 @@ end-left P.Resources left e = eqb-true left 0 e
 end-left P.Conditions left e = eqb-true left 0 e
 end-left P.Ended left e = never (cc)
 
-column-fresh : (c : Column) → isFresh (columnPhase c) ≡ false
+pub column-fresh : (c : Column) → isFresh (columnPhase c) ≡ false
 column-fresh C.Principal = refl
 column-fresh C.Action = refl
 column-fresh C.Resource = refl
@@ -163,7 +161,7 @@ column-fresh C.NotPrincipal = refl
 column-fresh C.NotAction = refl
 column-fresh C.NotResource = refl
 
-column-ended : (c : Column) → isEnded (columnPhase c) ≡ false
+pub column-ended : (c : Column) → isEnded (columnPhase c) ≡ false
 column-ended C.Principal = refl
 column-ended C.Action = refl
 column-ended C.Resource = refl
@@ -172,7 +170,7 @@ column-ended C.NotAction = refl
 column-ended C.NotResource = refl
 
 -- what taking an entry gives: its kind has a place, and the next state
-took : (s : State) (e : Entry) (u : State) → admit s e ≡ T.Next u
+pub took : (s : State) (e : Entry) (u : State) → admit s e ≡ T.Next u
     → (takesKind (s .phase) (s .left) (kindOfItem (itemOf e) (length (bytesOf e))) ≡ true) × Turned s e u
 took s e u h =
     let d = admitted s (itemOf e) (bytesOf e) u h in
@@ -211,42 +209,56 @@ rows-left (end ∷ es) s last l d f z =
     let h = end-left (s .phase) (s .left) (k .0) in
     rows-left es (endedState s) last (rw (k .1) at (l .2)) d refl (λ e. h)
 
--- from the beginning the rows are as many as the number says, at most 32
-fresh-rows : (es : List Entry) (last : State) → Leads freshState es last → isEnded (last .phase) ≡ true
-    → (length (tableOf es) ≡ last .rows) × (length (tableOf es) ≤ 32)
-fresh-rows [] last l d =
+-- entries from the beginning: the first is the number of statements, at most 32
+pub record Started (es : List Entry) (last : State) : Type 0 where
+  pub number : ℕ
+  pub rest : List Entry
+  pub first : es ≡ start number ∷ rest
+  pub few : number ≤ 32
+  pub leads : Leads (countedState number) rest last
+
+pub starts : (es : List Entry) (last : State) → Leads freshState es last → isEnded (last .phase) ≡ true → Started es last
+starts [] last l d =
     let e : false ≡ true = ap (λ (x : State). isEnded (x .phase)) l ∙ d in
     never (cc)
-fresh-rows (start n ∷ es) last l d =
+starts (start n ∷ es) last l d =
     let k = took freshState (start n) (l .0) (l .1) in
-    let r = rows-left es (countedState n) last (rw (k .1 .1) at (l .2)) d refl (λ e. never (cc)) in
-    let r0 = r .0 in
-    let few = k .1 .0 in
-    (r .0 ∙ sym (r .1), omega arith)
-fresh-rows (statement x ∷ es) last l d =
+    record { number = n; rest = es; first = refl; few = k .1 .0; leads = rw (k .1 .1) at (l .2) }
+starts (statement x ∷ es) last l d =
     let k = took freshState (statement x) (l .0) (l .1) in
     let e = k .0 in
     never (cc)
-fresh-rows (column c ∷ es) last l d =
+starts (column c ∷ es) last l d =
     let k = took freshState (column c) (l .0) (l .1) in
     let e = k .0 in
     never (cc)
-fresh-rows (condition o q ∷ es) last l d =
+starts (condition o q ∷ es) last l d =
     let k = took freshState (condition o q) (l .0) (l .1) in
     let e = k .0 in
     never (cc)
-fresh-rows (network a n ∷ es) last l d =
+starts (network a n ∷ es) last l d =
     let k = took freshState (network a n) (l .0) (l .1) in
     let e = k .0 in
     never (cc)
-fresh-rows (value bs ∷ es) last l d =
+starts (value bs ∷ es) last l d =
     let k = took freshState (value bs) (l .0) (l .1) in
     let e = k .0 in
     never (cc)
-fresh-rows (end ∷ es) last l d =
+starts (end ∷ es) last l d =
     let k = took freshState end (l .0) (l .1) in
     let e = k .0 in
     never (cc)
+
+-- from the beginning the rows are as many as the number says, at most 32
+fresh-rows : (es : List Entry) (last : State) → Leads freshState es last → isEnded (last .phase) ≡ true
+    → (length (tableOf es) ≡ last .rows) × (length (tableOf es) ≤ 32)
+fresh-rows es last l d =
+    let k = starts es last l d in
+    let n = k .number in
+    let few = k .few in
+    let r = rows-left (k .rest) (countedState n) last (k .leads) d refl (λ e. never (cc)) in
+    let many : length (tableOf es) ≡ n = ap (λ (x : List Entry). length (tableOf x)) (k .first) ∙ r .0 in
+    (many ∙ sym (r .1), omega arith)
 
 -- the number of statements that reading gives is the number of rows
 pub counted : (t : List ℕ) (n : ℕ) → reading t ≡ A.Accepted n → n ≡ length (tableOf (entriesOf t))
@@ -259,110 +271,3 @@ pub few : (t : List ℕ) (n : ℕ) → reading t ≡ A.Accepted n → length (ta
 few t n e =
     let l = read-leads t n e in
     fresh-rows (entriesOf t) (l .last) (l .leads) (l .ended) .1
-
--- the columns of elements, one after the other
-abbrev pub placesOf : List Element → List ℕ
-placesOf [] = []
-placesOf (e ∷ es) = columnPlace (e .name) ∷ placesOf es
-
--- the elements of every row are principal, action, resource, in order
-abbrev pub Shaped : List Statement → Type 0
-Shaped [] = Unit {0}
-Shaped (r ∷ rs) = (placesOf (r .elements) ≡ 0 ∷ 1 ∷ 2 ∷ []) × Shaped rs
-
--- the columns still to come in the statement at hand
-abbrev columnsDue : Phase → List ℕ
-columnsDue P.Fresh = []
-columnsDue P.Counted = []
-columnsDue P.Opened = 0 ∷ 1 ∷ 2 ∷ []
-columnsDue P.Principals = 1 ∷ 2 ∷ []
-columnsDue P.Actions = 2 ∷ []
-columnsDue P.Resources = []
-columnsDue P.Conditions = []
-columnsDue P.Ended = []
-
--- a column that comes in turn is the first of those still to come
-column-due : (p : Phase) (left : ℕ) (c : Column) → takesKind p left K.Column ≡ true → placeDue p ≡ columnPlace c
-    → columnPlace c ∷ columnsDue (columnPhase c) ≡ columnsDue p
-column-due P.Fresh left c e h = never (cc)
-column-due P.Counted left c e h = never (cc)
-column-due P.Opened left C.Principal e h = refl
-column-due P.Opened left C.Action e h = absurd (omega arith)
-column-due P.Opened left C.Resource e h = absurd (omega arith)
-column-due P.Opened left C.NotPrincipal e h = refl
-column-due P.Opened left C.NotAction e h = absurd (omega arith)
-column-due P.Opened left C.NotResource e h = absurd (omega arith)
-column-due P.Principals left C.Principal e h = absurd (omega arith)
-column-due P.Principals left C.Action e h = refl
-column-due P.Principals left C.Resource e h = absurd (omega arith)
-column-due P.Principals left C.NotPrincipal e h = absurd (omega arith)
-column-due P.Principals left C.NotAction e h = refl
-column-due P.Principals left C.NotResource e h = absurd (omega arith)
-column-due P.Actions left C.Principal e h = absurd (omega arith)
-column-due P.Actions left C.Action e h = absurd (omega arith)
-column-due P.Actions left C.Resource e h = refl
-column-due P.Actions left C.NotPrincipal e h = absurd (omega arith)
-column-due P.Actions left C.NotAction e h = absurd (omega arith)
-column-due P.Actions left C.NotResource e h = refl
-column-due P.Resources left c e h = never (cc)
-column-due P.Conditions left c e h = never (cc)
-column-due P.Ended left c e h = never (cc)
-
--- where a kind comes that is neither a column nor in a list, no column is still to come
-none-due : (p : Phase) (left : ℕ) (k : Kind) → takesKind p left k ≡ true → onlyColumn k ≡ false → isContent k ≡ false
-    → [] ≡ columnsDue p
-none-due P.Fresh left k e h c = refl
-none-due P.Counted left k e h c = refl
-none-due P.Opened left k e h c = never (cc)
-none-due P.Principals left k e h c = never (cc)
-none-due P.Actions left k e h c = never (cc)
-none-due P.Resources left k e h c = refl
-none-due P.Conditions left k e h c = refl
-none-due P.Ended left k e h c = refl
-
-ended-due : (p : Phase) → isEnded p ≡ true → [] ≡ columnsDue p
-ended-due P.Fresh e = refl
-ended-due P.Counted e = refl
-ended-due P.Opened e = never (cc)
-ended-due P.Principals e = never (cc)
-ended-due P.Actions e = never (cc)
-ended-due P.Resources e = refl
-ended-due P.Conditions e = refl
-ended-due P.Ended e = refl
-
--- what is gathered from a state on: the columns still to come, then rows in their shape
-gathered : (es : List Entry) (s last : State) → Leads s es last → isEnded (last .phase) ≡ true
-    → (placesOf (gather es .elements) ≡ columnsDue (s .phase)) × Shaped (gather es .rows)
-gathered [] s last l d = (ended-due (s .phase) (rw l d), tt)
-gathered (start n ∷ es) s last l d =
-    let k = took s (start n) (l .0) (l .1) in
-    let r = gathered es (countedState n) last (rw (k .1 .1) at (l .2)) d in
-    (r .0 ∙ none-due (s .phase) (s .left) K.Start (k .0) refl refl, r .1)
-gathered (statement x ∷ es) s last l d =
-    let k = took s (statement x) (l .0) (l .1) in
-    let r = gathered es (openedState s) last (rw (k .1) at (l .2)) d in
-    (none-due (s .phase) (s .left) K.Statement (k .0) refl refl, r)
-gathered (column c ∷ es) s last l d =
-    let k = took s (column c) (l .0) (l .1) in
-    let r = gathered es (listedState s (columnPhase c) (s .conditions) O.Text) last (rw (k .1 .1) at (l .2)) d in
-    (ap (columnPlace c ∷_) (r .0) ∙ column-due (s .phase) (s .left) c (k .0) (k .1 .0), r .1)
-gathered (condition o q ∷ es) s last l d =
-    let k = took s (condition o q) (l .0) (l .1) in
-    let r = gathered es (listedState s P.Conditions (s .conditions + 1) (rowOf o .sort)) last (rw (k .1) at (l .2)) d in
-    (r .0 ∙ none-due (s .phase) (s .left) K.Condition (k .0) refl refl, r .1)
-gathered (network a n ∷ es) s last l d =
-    let k = took s (network a n) (l .0) (l .1) in
-    gathered es (filledState s (s .values + 1)) last (rw (k .1) at (l .2)) d
-gathered (value bs ∷ es) s last l d =
-    let k = took s (value bs) (l .0) (l .1) in
-    gathered es (filledState s (s .values + 1)) last (rw (k .1 .2) at (l .2)) d
-gathered (end ∷ es) s last l d =
-    let k = took s end (l .0) (l .1) in
-    let r = gathered es (endedState s) last (rw (k .1) at (l .2)) d in
-    (r .0 ∙ none-due (s .phase) (s .left) K.End (k .0) refl refl, r .1)
-
--- in a table that reads, the elements of every row are principal, action, resource, in order
-pub shaped : (t : List ℕ) (n : ℕ) → reading t ≡ A.Accepted n → Shaped (tableOf (entriesOf t))
-shaped t n e =
-    let l = read-leads t n e in
-    gathered (entriesOf t) freshState (l .last) (l .leads) (l .ended) .1

@@ -9,6 +9,8 @@ pub mod Walking
 pub mod Steps
 pub mod Turns
 pub mod Accepting
+pub mod Statements
+pub mod Numbers
 pub mod OneRecord
 pub mod Placing
 pub mod RoundTrip

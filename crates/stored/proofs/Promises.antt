@@ -1,18 +1,27 @@
--- What the stored form promises, in statements that can be read without their proofs. `reading` is what the reader answers, `Writes`
--- says that a writer takes entries one after the other, `encode` lays their records one behind the other, and `entriesOf` walks the
--- records of a byte string.
-use Prim.Native.Nat.{ℕ, _≤_}
+-- What the stored form promises, in statements that can be read without their proofs. `reading` is what the reader answers, `writing`
+-- what the writer answers, `Writes` says that a writer takes entries one after the other, `encode` lays their records one behind the
+-- other, `entriesOf` walks the records of a byte string, and `rowsOf` has the statements that they make.
+use Prim.Native.Nat.{ℕ, _≤_, _<_}
 use mathlib.Core.Path.{_≡_, sym, _∙_, ap}
 use mathlib.Core.Bool.{true}
 use mathlib.Core.List.{List, [], _∷_, _++_}
+use mathlib.Core.Logic.{_⊎_}
 use lib.ListN.{length, take, drop}
+use Rattle.stored.specs.Choice.{In}
 use Rattle.stored.specs.Machine.{isEnded}
 use Rattle.stored.specs.Reading.{reading}
-use Rattle.stored.specs.Writing.{freshWriter}
+use Rattle.stored.specs.Writing.{freshWriter, writing}
 use Rattle.stored.specs.Entries.{Entry, encode, entriesOf, Bytes, AllFit, Writes}
 use Rattle.stored.specs.Entries.Entry.{end}
+use Rattle.stored.specs.Tables.{Statement, rowsOf, WellFormed}
+use Rattle.stored.specs.declared.items.Item.{Item}
 use Rattle.stored.specs.declared.reader.ReadAnswer.the-variants as A
 use Rattle.stored.specs.declared.writer.Writer.{Writer}
+use Rattle.stored.specs.declared.writer.WriteAnswer.the-variants as W
+use Rattle.stored.proofs.Accepting
+use Rattle.stored.proofs.Steps
+use Rattle.stored.proofs.Statements
+use Rattle.stored.proofs.Numbers
 use Rattle.stored.proofs.RoundTrip
 
 -- "An accepted item adds its record behind the last and changes no other byte. The round trip is for a writer started fresh and one
@@ -33,6 +42,17 @@ end-ends es buffer last left = RoundTrip.ends es freshWriter buffer last left
 pub accepted-whole : (table : List ℕ) (n : ℕ) → Bytes table → reading table ≡ A.Accepted n → encode (entriesOf table) ≡ table
 accepted-whole = RoundTrip.accepted-whole
 
+-- "A statement is 02, then principal, action, resource in that order, each 03 with one value or more, then 0 to 4 conditions, each 04 with
+-- one value or more. A statement holds at most 64 values and networks together": a table that reads as one of n statements has n, at most
+-- 32, and each is such a statement.
+pub three-elements : (table : List ℕ) (n : ℕ) → reading table ≡ A.Accepted n
+    → (length (rowsOf table) ≡ n) × (n ≤ 32) × ((s : Statement) → In s (rowsOf table) → WellFormed s)
+three-elements table n e = (
+  sym (Accepting.counted table n e),
+  rw (Accepting.counted table n e) (Accepting.few table n e),
+  Statements.well-formed table n e,
+)
+
 -- A table that reads is `encode` of its entries, and a fresh writer given them writes just those bytes, into any buffer that has room
 -- for them, and changes no other byte.
 pub write-read : (table : List ℕ) (n : ℕ) → Bytes table → reading table ≡ A.Accepted n
@@ -45,3 +65,25 @@ write-read = RoundTrip.write-read
 pub one-string : (first second : List ℕ) (m n : ℕ) → Bytes first → Bytes second
     → reading first ≡ A.Accepted m → reading second ≡ A.Accepted n → entriesOf first ≡ entriesOf second → first ≡ second
 one-string first second m n b c e f same = sym (accepted-whole first m b e) ∙ ap encode same ∙ accepted-whole second n c f
+
+-- A refusal of the reader has a number from 1 to 8 and a place of at most 16,384.
+pub refused-where : (table : List ℕ) (number place : ℕ) → reading table ≡ A.Refused number place
+    → (0 < number) × (number ≤ 8) × (place ≤ 16384)
+refused-where = Numbers.refused-where
+
+-- "1: table over 16,384 bytes", at 16,384.
+pub refused-long : (table : List ℕ) → 16384 < length table → reading table ≡ A.Refused 1 16384
+refused-long = Steps.too-long
+
+-- The refusal of any other table is 2 at a record or at the length, or 3 to 8 at a record: the place of a record is below the length.
+pub refused-short : (table : List ℕ) (number place : ℕ) → length table ≤ 16384 → reading table ≡ A.Refused number place
+    → (2 ≤ number) × (number ≤ 8) × (place ≤ length table) × (2 < number → place < length table)
+refused-short table number place short e =
+    let r = Numbers.refused-inside table number place short e in
+    (r .low, r .high, r .inside, r .at-record)
+
+-- "The writer takes items one at a time and refuses an item as the reader would refuse its record at that point, then 1, then 14": a
+-- writer's refusal is 4 to 8 at the bytes written so far, 1 at 16,384, or 14 at 0. (An item has no unknown code, and no record is cut.)
+pub writer-numbers : (w : Writer) (item : Item) (bytes : List ℕ) (room number place : ℕ) → writing w item bytes room ≡ W.Refused number place
+    → ((4 ≤ number) × (number ≤ 8) × (place ≡ w .at)) ⊎ (((number ≡ 1) × (place ≡ 16384)) ⊎ ((number ≡ 14) × (place ≡ 0)))
+writer-numbers = Numbers.writer-numbers

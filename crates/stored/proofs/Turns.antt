@@ -6,7 +6,7 @@ use mathlib.Core.List.{List}
 use native.Mathlib.Omega.{arith}
 use lib.Dec.{eqb, leb, ltb}
 use lib.ListN.{length}
-use borrow.Author.Tests.{ltb-false, eqb-true, eqb-false}
+use borrow.Author.Tests.{ltb-false, leb-false, eqb-true, eqb-false}
 use Rattle.stored.specs.Choice.{pick}
 use Rattle.stored.specs.Items.{columnPlace, keySort}
 use Rattle.stored.specs.Operators.{rowOf}
@@ -82,6 +82,16 @@ in-turn s k = ended (isEnded (s .phase))
     ended true e = absurd (omega arith)
     ended false e = strange (isUnknown k) (leavesEmpty (s .waiting) k) (takesKind (s .phase) (s .left) k) e
 
+-- a kind that is due leaves no list empty
+pub fills : (s : State) (k : Kind) → dueOf s k ≡ 0 → leavesEmpty (s .waiting) k ≡ false
+fills s k = by (isEnded (s .phase)) (isUnknown k) (leavesEmpty (s .waiting) k) (takesKind (s .phase) (s .left) k)
+  where
+    by : (a b c d : Bool) → pick {A = ℕ} a 4 (pick b 3 (pick c 5 (pick d 0 4))) ≡ 0 → c ≡ false
+    by true b c d e = absurd (omega arith)
+    by false true c d e = absurd (omega arith)
+    by false false true d e = absurd (omega arith)
+    by false false false d e = refl
+
 -- the next state, by the entry taken
 abbrev pub Turned : State → Entry → State → Type 0
 Turned s (start n) u = (n ≤ 32) × (u ≡ countedState n)
@@ -131,3 +141,22 @@ turned s (value bs) u h =
     let z = sized (s .phase) (s .sort) bs (eqb-true fault 0 (q .0)) in
     (z .0, z .1, cc)
 turned s end u h = cc
+
+-- the bounds that a taken entry keeps: a condition is at most the fourth, a value or a network at most the 64th
+abbrev pub Within : State → Entry → Type 0
+Within s (start n) = Unit {0}
+Within s (statement e) = Unit {0}
+Within s (column c) = Unit {0}
+Within s (condition o k) = s .conditions < 4
+Within s (network a n) = s .values < 64
+Within s (value bs) = s .values < 64
+Within s end = Unit {0}
+
+pub within : (s : State) (e : Entry) (u : State) → turnOf s (itemOf e) (bytesOf e) ≡ T.Next u → Within s e
+within s (start n) u h = tt
+within s (statement e) u h = tt
+within s (column c) u h = tt
+within s (condition o k) u h = leb-false 4 (s .conditions) (refused-else (leb 4 (s .conditions)) 6 _ u h .0)
+within s (network a n) u h = leb-false 64 (s .values) (refused-else (leb 64 (s .values)) 6 _ u h .0)
+within s (value bs) u h = leb-false 64 (s .values) (refused-else (leb 64 (s .values)) 6 _ u h .0)
+within s end u h = tt

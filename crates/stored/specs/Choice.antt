@@ -1,4 +1,6 @@
--- The few words that every definition here is made of: a choice by a test, "some element" and "every element" of a list.
+-- The few words that every definition here is made of: a choice by a test, "some element", "every element" and "an element" of a list.
+use mathlib.Core.Path.{_≡_}
+use mathlib.Core.Logic.{_⊎_}
 use mathlib.Core.Bool.{Bool, true, false, _&&_, _||_}
 use mathlib.Core.List.{List, [], _∷_}
 
@@ -16,3 +18,8 @@ some p (x ∷ xs) = p x || some p xs
 abbrev pub every {ℓ} : {A : Type ℓ} → (A → Bool) → List A → Bool
 every p [] = true
 every p (x ∷ xs) = p x && every p xs
+
+-- x is in a list
+abbrev pub In : {A : Type 0} → A → List A → Type 0
+In x [] = ⊥
+In x (y ∷ l) = (x ≡ y) ⊎ In x l

@@ -1,6 +1,6 @@
 -- A table as the list of its records: entries, how they are written down, the walk that finds them in a byte string, and which
 -- lists of them the state machine takes.
-use Prim.Native.Nat.{ℕ, zero, suc, _+_, _-_, _^_, _<_}
+use Prim.Native.Nat.{ℕ, zero, suc, _+_, _-_, _^_, _≤_, _<_}
 use mathlib.Core.Path.{_≡_}
 use mathlib.Core.Bool.{true}
 use mathlib.Core.List.{List, [], _∷_, _++_}
@@ -93,7 +93,8 @@ abbrev pub Follows : State → List Entry → Type 0
 Follows s [] = isEnded (s .phase) ≡ true
 Follows s (e ∷ es) = (next : State) × (admit s e ≡ T.Next next) × Follows next es
 
--- a list of entries that is a table
+-- entries in order and complete, from the start to the end of a table; the bound of 16,384 bytes is the reader's and the writer's, and
+-- is not said here
 abbrev pub Accepted : List Entry → Type 0
 Accepted es = Follows freshState es
 
@@ -115,6 +116,16 @@ Fits end = Unit {0}
 abbrev pub AllFit : List Entry → Type 0
 AllFit [] = Unit {0}
 AllFit (e ∷ es) = Fits e × AllFit es
+
+-- the bytes of an entry's record say the entry: an address has 32 bits, and a value 1 to 128 bytes (the kinds 40 to BF say no other length)
+abbrev pub HasRecord : Entry → Type 0
+HasRecord (start n) = Unit {0}
+HasRecord (statement e) = Unit {0}
+HasRecord (column c) = Unit {0}
+HasRecord (condition o k) = Unit {0}
+HasRecord (network a n) = a < 2 ^ 32
+HasRecord (value bs) = (0 < length bs) × (length bs ≤ 128)
+HasRecord end = Unit {0}
 
 -- a writer and its buffer take these entries one after the other, and are left as the last two say
 abbrev pub Writes : Writer → List ℕ → List Entry → Writer → List ℕ → Type 0

@@ -1,8 +1,12 @@
 -- A table as data, so that the crates above can say what it means: statements with their effect, elements and conditions, and the
 -- values and networks that these list.
-use Prim.Native.Nat.{ℕ}
+use Prim.Native.Nat.{ℕ, _+_, _≤_, _<_}
+use mathlib.Core.Path.{_≡_}
 use mathlib.Core.List.{List, [], _∷_}
-use Rattle.stored.specs.Entries.{Entry}
+use lib.ListN.{length}
+use Rattle.stored.specs.Choice.{In}
+use Rattle.stored.specs.Items.{columnPlace}
+use Rattle.stored.specs.Entries.{Entry, entriesOf}
 use Rattle.stored.specs.Entries.Entry.{start, statement, column, condition, network, value, end}
 use Rattle.stored.specs.declared.items.Effect.{Effect}
 use Rattle.stored.specs.declared.items.Column.{Column}
@@ -76,3 +80,34 @@ gather (e ∷ es) = before e (gather es)
 -- the statements that entries make
 abbrev pub tableOf : List Entry → List Statement
 tableOf es = gather es .rows
+
+-- the statements of a table
+abbrev pub rowsOf : List ℕ → List Statement
+rowsOf t = tableOf (entriesOf t)
+
+-- the columns of elements, one after the other
+abbrev pub placesOf : List Element → List ℕ
+placesOf [] = []
+placesOf (e ∷ es) = columnPlace (e .name) ∷ placesOf es
+
+-- how many values and networks elements list together, and conditions
+abbrev pub elementsList : List Element → ℕ
+elementsList [] = 0
+elementsList (e ∷ es) = length (e .values) + elementsList es
+
+abbrev pub conditionsList : List Condition → ℕ
+conditionsList [] = 0
+conditionsList (c ∷ cs) = length (c .values) + conditionsList cs
+
+-- how many values and networks a statement holds
+abbrev pub heldBy : Statement → ℕ
+heldBy s = elementsList (s .elements) + conditionsList (s .conditions)
+
+-- a statement as the stored form has it: principal, action, resource in that order and no other element, each with one value or more;
+-- 0 to 4 conditions, each with one value or more (a network counts as one); at most 64 values and networks together
+pub record WellFormed (s : Statement) : Type 0 where
+  pub in-order : placesOf (s .elements) ≡ 0 ∷ 1 ∷ 2 ∷ []
+  pub elements-filled : (e : Element) → In e (s .elements) → 0 < length (e .values)
+  pub few-conditions : length (s .conditions) ≤ 4
+  pub conditions-filled : (c : Condition) → In c (s .conditions) → 0 < length (c .values)
+  pub few-values : heldBy s ≤ 64

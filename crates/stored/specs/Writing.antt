@@ -31,7 +31,7 @@ recordOf (I.Network a n) bs = 0x06 ∷ (a / 0x1000000 % 0x100) ∷ (a / 0x10000 
 recordOf I.Value bs = (length bs + 0x3F) ∷ bs
 recordOf I.End bs = 0x05 ∷ []
 
--- a value's length is one that its kind can say
+-- a value has at most 128 bytes, so that its kind is at most BF
 abbrev pub HasKind : Item → ℕ → Type 0
 HasKind (I.Start n) size = Unit {0}
 HasKind (I.Statement e) size = Unit {0}
