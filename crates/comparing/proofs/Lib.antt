@@ -17,4 +17,5 @@ pub mod Refusals
 pub mod OneAnswer
 pub mod GapList
 pub mod FewGaps
+pub mod ShownRequest
 pub mod Promises

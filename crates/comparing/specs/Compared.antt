@@ -6,13 +6,13 @@ use mathlib.Core.Bool.{Bool, _||_}
 use mathlib.Core.List.{List, [], _∷_, _++_}
 use mathlib.Core.Logic.{_⊎_}
 use lib.Dec.{ltb}
-use lib.ListN.{length, drop, replicate}
+use lib.ListN.{length, take, drop, replicate}
 use Rattle.stored.specs.Choice.{pick}
 use Rattle.stored.specs.Reading.{reading}
 use Rattle.stored.specs.Tables.{Statement}
 use Rattle.stored.specs.declared.reader.ReadAnswer.{ReadAnswer}
 use Rattle.stored.specs.declared.reader.ReadAnswer.the-variants as A
-use Rattle.judging.specs.Requests.{Value, absent, text, number, isPresent, columns, columnOf}
+use Rattle.judging.specs.Requests.{Value, absent, text, number, isPresent, columns, columnOf, requestOf}
 use Rattle.judging.specs.Judging.{rowsOf}
 use Rattle.columns.specs.Values.{valuesIn}
 use Rattle.comparing.specs.Gaps.{Counted, IsGap}
@@ -151,6 +151,24 @@ shapeOf request =
           };
       address = addressIn (columnOf request 7);
     }
+
+-- a shown string: the first so many bytes of its column's 512
+abbrev pub shownBytes : List ℕ → ℕ → ℕ → List ℕ
+shownBytes values column size = take size (take valueRoom (drop (column * valueRoom) values))
+
+-- the request that an answer for a gap and the value buffer show
+abbrev pub requestShown : Shape → List ℕ → List Value
+requestShown shape values =
+    requestOf
+    (shownBytes values 0 (shape .principal))
+    (shownBytes values 1 (shape .action))
+    (shownBytes values 2 (shape .resource))
+    (shape .present)
+    (shownBytes values 3 (shape .vpc))
+    (shownBytes values 4 (shape .prefix))
+    (shownBytes values 5 (shape .vpce))
+    (shownBytes values 6 (shape .referer))
+    (shape .address)
 
 -- gap k: 15, then its values, laid over the first 3,584 bytes of the buffer
 abbrev pub IsShown : ℕ → List ℕ → List Statement → List Statement → Showing × List ℕ → Type 0

@@ -6,7 +6,8 @@ use native.Mathlib.Nat.{le-antisymm, min-le-left, min-le-right}
 use native.Mathlib.Omega.{arith}
 use lib.ListN.{length, length-append, length-take, set, take, drop}
 use lib.Seq.{sets, sets-eq, paste, take-length}
-use Rattle.gaps.specs.Lines.{valueIn, Laid}
+use Rattle.comparing.specs.Compared.{shownBytes}
+use Rattle.gaps.specs.Lines.{Laid}
 
 sets-behind : (l : List ℕ) (at : ℕ) (xs ys : List ℕ) (p : ℕ) → p ≡ at + length xs → sets (sets l at xs) p ys ≡ sets l at (xs ++ ys)
 sets-behind l at [] ys p e = ap (λ (n : ℕ). sets l n ys) (omega arith)
@@ -37,7 +38,7 @@ copied before at bytes i room below above =
     rw (le-antisymm below above, take-length bytes) (sym (sets-eq bytes before at room))
 
 -- a value in its column's 512 bytes has at most 512
-pub value-short : (values : List ℕ) (column size : ℕ) → length (valueIn values column size) ≤ 512
+pub value-short : (values : List ℕ) (column size : ℕ) → length (shownBytes values column size) ≤ 512
 value-short values column size =
     let inner = length-take 512 (drop (column * 512) values) in
     let outer = length-take size (take 512 (drop (column * 512) values)) in

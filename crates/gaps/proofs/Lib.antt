@@ -2,6 +2,4 @@
 pub mod Splitting
 pub mod Laying
 pub mod Decimal
-pub mod ShownGap
-pub mod Answered
 pub mod Promises

@@ -1,15 +1,14 @@
 -- The lines that the gap program prints, each with its line feed (document 01, "The gap program").
-use Prim.Native.Nat.{ℕ, zero, suc, _+_, _*_, _/_, _%_, _≤_}
+use Prim.Native.Nat.{ℕ, zero, suc, _+_, _/_, _%_, _≤_}
 use Prim.Native.Char.{code}
 use Prim.Native.String.{String, [] as empty, _∷_ as _then_}
 use mathlib.Core.Path.{_≡_}
 use mathlib.Core.List.{List, [], _∷_, _++_}
 use lib.Dec.{ltb}
-use lib.ListN.{length, take, drop}
+use lib.ListN.{length}
 use lib.Seq.{sets}
 use Rattle.stored.specs.Choice.{pick}
-use Rattle.judging.specs.Requests.{Value, absent, text, number, columnOf, requestOf}
-use Rattle.comparing.specs.declared.answers.Shape.{Shape}
+use Rattle.judging.specs.Requests.{Value, absent, text, number, columnOf}
 
 -- the bytes of a text
 abbrev pub ascii : String → List ℕ
@@ -71,24 +70,6 @@ keysShown request =
 unfoldable pub gapLine : ℕ → List Value → List ℕ
 gapLine k request =
     decimalOf k ++ neededShown request ++ keysShown request ++ shown (ascii " ip=") (columnOf request 7) ++ ascii "\n"
-
--- a value in the value buffer: the first so many bytes of its column's 512
-abbrev pub valueIn : List ℕ → ℕ → ℕ → List ℕ
-valueIn values column size = take size (take 512 (drop (column * 512) values))
-
--- the request that an answer for a gap and the value buffer show
-abbrev pub requestShown : Shape → List ℕ → List Value
-requestShown shape values =
-    requestOf
-    (valueIn values 0 (shape .principal))
-    (valueIn values 1 (shape .action))
-    (valueIn values 2 (shape .resource))
-    (shape .present)
-    (valueIn values 3 (shape .vpc))
-    (valueIn values 4 (shape .prefix))
-    (valueIn values 5 (shape .vpce))
-    (valueIn values 6 (shape .referer))
-    (shape .address)
 
 -- bytes are laid down at a place, and no other byte changes; the answer is the place behind them, at most so many bytes on
 pub record Laid (before : List ℕ) (at : ℕ) (bytes : List ℕ) (most : ℕ) (after : List ℕ) (behind : ℕ) : Type 0 where

@@ -6,7 +6,8 @@ ghost use Prim.Native.Nat.{_+_, _≤_, _<_};
 ghost use lib.ListN.{length, take};
 ghost use Rattle.judging.specs.Requests.{keyValue, number, absent};
 ghost use Rattle.stored.specs.Choice.{pick};
-ghost use Rattle.gaps.specs.Lines.{ascii, decimalOf, dotted, countLine, refusalLine, shown, neededShown, keysShown, gapLine, valueIn, requestShown, Laid};
+ghost use Rattle.gaps.specs.Lines.{ascii, decimalOf, dotted, countLine, refusalLine, shown, neededShown, keysShown, gapLine, Laid};
+ghost use Rattle.comparing.specs.Compared.{shownBytes, requestShown};
 
 // Bytes that a line has at most.
 pub const LINE: usize = 4096;
@@ -99,7 +100,7 @@ fn first_bytes(bytes: &[u8], size: usize) -> &[u8]
 // A value of one of columns 0 to 6 in the value buffer.
 fn value_in(values: &[u8], column: usize, size: usize) -> &[u8]
     requires { ⌜ (3584 ≤ length (now values)) × (column < 7) ⌝ }
-    ensures { λ r. ⌜ (now r ≡ valueIn (now (values .entry)) column size) × (length (now r) ≤ 512) ⌝ }
+    ensures { λ r. ⌜ (now r ≡ shownBytes (now (values .entry)) column size) × (length (now r) ≤ 512) ⌝ }
 {
     let start = column * 512;
     let end = start + 512;
@@ -117,7 +118,7 @@ fn put_column(
     size: usize,
 ) -> usize
     requires { ⌜ (at + (length (now name) + 512) ≤ length (now out)) × (3584 ≤ length (now values)) × (column < 7) ⌝ }
-    ensures { λ r. ⌜ Laid (now (out .entry)) at (shown (now (name .entry)) (keyValue present (valueIn (now (values .entry)) column size))) (length (now (name .entry)) + 512) (now (out .exit)) r ⌝ }
+    ensures { λ r. ⌜ Laid (now (out .entry)) at (shown (now (name .entry)) (keyValue present (shownBytes (now (values .entry)) column size))) (length (now (name .entry)) + 512) (now (out .exit)) r ⌝ }
 {
     put_key(out, at, name, present, value_in(values, column, size))
 }

@@ -1,22 +1,30 @@
 -- An answer for a gap and the value buffer give the gap's request back: each value stands in its 512 bytes, and the answer says which
--- are there.
+-- are there. An answer that shows a gap is none of the refusals, and what it shows is gap k.
 use Prim.Native.Nat.{ℕ, zero, suc, _+_, _-_, _*_, _≤_, _<_}
 use mathlib.Core.Path.{_≡_, refl, sym, _∙_, ap, ap₂}
-use mathlib.Core.Bool.{Bool, true, false}
+use mathlib.Core.Bool.{Bool, true, false, _||_}
 use mathlib.Core.List.{List, [], _∷_, _++_, append-assoc}
+use mathlib.Core.Logic.{⊎-elim}
 use native.Mathlib.Omega.{arith}
 use lib.Dec.{ltb}
-use lib.ListN.{length, take, drop, replicate, length-append, length-replicate}
+use lib.ListN.{length, getD, take, drop, replicate, length-append, length-replicate}
 use lib.Seq.{take-at, drop-at, take-append-seam, drop-drop}
 use borrow.Author.Tests.{lt-ltb, ltb-false}
 use Rattle.stored.specs.Choice.{pick}
+use Rattle.stored.specs.Reading.{reading}
 use Rattle.stored.specs.Tables.{Statement}
+use Rattle.stored.specs.declared.reader.ReadAnswer.{ReadAnswer}
+use Rattle.stored.specs.declared.reader.ReadAnswer.the-variants as A
 use Rattle.stored.proofs.Choosing.{never}
 use Rattle.judging.specs.Requests.{Value, absent, text, number, isPresent, columns, columnOf, keyValue}
+use Rattle.judging.specs.Judging.{rowsOf}
 use Rattle.comparing.specs.Requests.{Each, AdmitsNeeded, AdmitsOptional, AdmitsAddress}
-use Rattle.comparing.specs.Gaps.{FirstOf}
-use Rattle.comparing.specs.Compared.{valueRoom, bytesIn, addressIn, padded, laid, firstLong, shapeOf}
-use Rattle.gaps.specs.Lines.{valueIn, requestShown}
+use Rattle.comparing.specs.Gaps.{FirstOf, IsGap}
+use Rattle.comparing.specs.Compared.{workspaceWords, valueBytes, mostKinds, valueRoom, firstWide, product, FromStates, FromTables, bytesIn, addressIn, padded, laid, firstLong, shapeOf, shownBytes, requestShown, keeps, IsShown, IsAnswer, Shown}
+use Rattle.comparing.specs.declared.answers.Shape.{Shape}
+use Rattle.comparing.specs.declared.answers.Showing.{Showing}
+use Rattle.comparing.specs.declared.answers.Showing.the-variants as S
+use Rattle.comparing.proofs.Members.{in-at}
 
 -- a value and the zeros behind it fill its room
 room : (s : List ℕ) → length s ≤ valueRoom → length (padded s) ≡ 512
@@ -26,13 +34,13 @@ room s h =
     ∙ omega arith
 
 -- the first value stands in front
-first-value : (s t : List ℕ) → length s ≤ valueRoom → valueIn (padded s ++ t) 0 (length s) ≡ s
+first-value : (s t : List ℕ) → length s ≤ valueRoom → shownBytes (padded s ++ t) 0 (length s) ≡ s
 first-value s t h =
     ap (take (length s)) (take-at (padded s) t 512 (room s h)) ∙ take-append-seam s (replicate (valueRoom - length s) 0)
 
 -- the others stand behind it
 later-value : (s t : List ℕ) (column size : ℕ) → length s ≤ valueRoom
-    → valueIn (padded s ++ t) (suc column) size ≡ valueIn t column size
+    → shownBytes (padded s ++ t) (suc column) size ≡ shownBytes t column size
 later-value s t column size h = ap (λ (l : List ℕ). take size (take 512 l)) behind
   where
     on : suc column * 512 ≡ 512 + column * 512
@@ -63,7 +71,7 @@ all-short column (v ∷ request) size e =
 
 -- a value is found in its column
 found : (column n : ℕ) (request : List Value) (rest : List ℕ) → column < n → n ≤ length request → AllShort request
-    → valueIn (laid n request ++ rest) column (length (bytesIn (columnOf request column))) ≡ bytesIn (columnOf request column)
+    → shownBytes (laid n request ++ rest) column (length (bytesIn (columnOf request column))) ≡ bytesIn (columnOf request column)
 found column zero request rest low many short = absurd (omega arith)
 found column (suc n) [] rest low many short = absurd (omega arith)
 found zero (suc n) (v ∷ request) rest low many short =
@@ -118,7 +126,71 @@ module _ (first second : List Statement) where
       all = a ∷ (b ∷ (c ∷ (d ∷ (e ∷ (g ∷ (i ∷ (j ∷ [])))))))
 
       here : (column : ℕ) → column < 7
-          → valueIn (laid 7 all ++ rest) column (length (bytesIn (columnOf all column))) ≡ bytesIn (columnOf all column)
+          → shownBytes (laid 7 all ++ rest) column (length (bytesIn (columnOf all column))) ≡ bytesIn (columnOf all column)
       here column low = found column 7 all rest low (omega arith) (all-short 0 all refl h)
   shown-request (a ∷ (b ∷ (c ∷ (d ∷ (e ∷ (g ∷ (i ∷ (j ∷ (k ∷ request))))))))) f h rest =
       absurd (too-many 9 request (omega arith) (f .1 .1 .1 .1 .1 .1 .1 .1 .1))
+
+module _ (k : ℕ) (buffer values : List ℕ) (shape : Shape) where
+  abbrev answer : Showing × List ℕ
+  answer = (S.Shown shape, values)
+
+  refusal {ℓ} : {B : Type ℓ} (n table place : ℕ) → answer ≡ keeps buffer n table place → B
+  refusal n table place e =
+      let shown : S.Shown shape ≡ S.Refused n table place = ap (λ (r : Showing × List ℕ). r .0) e in
+      never (cc)
+
+  module _ (first second : List Statement) where
+    abbrev IsShownGap : Type 0
+    IsShownGap = IsGap first second k (requestShown shape values)
+
+    firsts : (request : List Value) → IsGap first second k request → Each (FirstOf first second) 0 request
+    firsts request g = rw (g .here) (g .gaps .firsts (getD (g .list) k []) (in-at (g .list) k [] (g .low)))
+
+    by-length : (request : List Value) → IsGap first second k request → (b : Bool) → ltb (firstLong 0 request) columns ≡ b
+        → pick b (answer ≡ keeps buffer 15 0 (firstLong 0 request)) (answer ≡ (S.Shown (shapeOf request), laid 7 request ++ drop valueBytes buffer))
+        → IsShownGap
+    by-length request g true t e = refusal 15 0 (firstLong 0 request) e
+    by-length request g false t e =
+        let here = shown-request first second request (firsts request g) t (drop valueBytes buffer) in
+        let there : S.Shown shape ≡ S.Shown (shapeOf request) = ap (λ (r : Showing × List ℕ). r .0) e in
+        let laid-there : values ≡ laid 7 request ++ drop valueBytes buffer = ap (λ (r : Showing × List ℕ). r .1) e in
+        let told : shape ≡ shapeOf request = cc in
+        let same : requestShown shape values ≡ requestShown (shapeOf request) (laid 7 request ++ drop valueBytes buffer) = ap₂ requestShown told laid-there in
+        rw (same ∙ here) g
+
+    by-number : (b : Bool) → pick b (IsShown k buffer first second answer) (answer ≡ keeps buffer 13 0 0) → IsShownGap
+    by-number true (request, g, e) = by-length request g (ltb (firstLong 0 request) columns) refl e
+    by-number false e = refusal 13 0 0 e
+
+    by-kinds : (b : Bool) → pick b (answer ≡ keeps buffer 12 0 0) (IsAnswer k buffer first second answer) → IsShownGap
+    by-kinds true e = refusal 12 0 0 e
+    by-kinds false (n, counted, e) = by-number (ltb k n) e
+
+    by-states : FromStates (keeps buffer) (IsAnswer k buffer) first second answer → IsShownGap
+    by-states h =
+        ⊎-elim
+        (λ u. refusal 11 0 (u .0) (u .2))
+        (λ u. by-kinds (ltb mostKinds (product (u .1 .0))) (u .1 .2))
+        h
+
+    by-widths : (b : Bool)
+        → pick b (answer ≡ keeps buffer 10 0 (firstWide (first ++ second))) (FromStates (keeps buffer) (IsAnswer k buffer) first second answer)
+        → IsShownGap
+    by-widths true e = refusal 10 0 (firstWide (first ++ second)) e
+    by-widths false h = by-states h
+
+    by-tables : (a b : ReadAnswer) → FromTables (keeps buffer) (IsAnswer k buffer) a b first second answer → IsShownGap
+    by-tables (A.Refused n place) b e = refusal n 1 place e
+    by-tables (A.Accepted m) (A.Refused n place) e = refusal n 2 place e
+    by-tables (A.Accepted m) (A.Accepted n) h = by-widths (ltb (firstWide (first ++ second)) columns) h
+
+  module _ (a b : List ℕ) where
+    by-room : (short : Bool)
+        → pick short (answer ≡ keeps buffer 14 0 0) (FromTables (keeps buffer) (IsAnswer k buffer) (reading a) (reading b) (rowsOf a) (rowsOf b) answer)
+        → IsShownGap (rowsOf a) (rowsOf b)
+    by-room true e = refusal 14 0 0 e
+    by-room false h = by-tables (rowsOf a) (rowsOf b) (reading a) (reading b) h
+
+    pub shown-gap : (words : ℕ) → Shown words a b k buffer (S.Shown shape, values) → IsGap (rowsOf a) (rowsOf b) k (requestShown shape values)
+    shown-gap words h = by-room (ltb words workspaceWords || ltb (length buffer) valueBytes) h
