@@ -1,3 +1,5 @@
 -- What the proofs of the entry points share, and what they promise.
 pub mod Flags
+pub mod Fitting
+pub mod JudgeBack
 pub mod Promises
