@@ -10,8 +10,11 @@ pub mod Steps
 pub mod Turns
 pub mod Accepting
 pub mod Statements
+pub mod EntriesFor
+pub mod SoundValues
 pub mod Numbers
 pub mod OneRecord
 pub mod Placing
 pub mod RoundTrip
+pub mod SameRefusal
 pub mod Promises

@@ -12,7 +12,7 @@ use Rattle.stored.specs.Items.{effectCode, columnCode, keyCode, keyOf}
 use Rattle.stored.specs.Operators.{codeOf, operatorOf}
 use Rattle.stored.specs.Records.{kindOf, sizeOf, decodeOf, statementOf, columnOf, conditionOf, addressOf, known, recordAt}
 use Rattle.stored.specs.Writing.{recordOf}
-use Rattle.stored.specs.Entries.{Entry, entryOf, itemOf, bytesOf, admit, Bytes, Fits}
+use Rattle.stored.specs.Entries.{Entry, entryOf, itemOf, bytesOf, admit, Bytes, Fits, HasRecord}
 use Rattle.stored.specs.Entries.Entry.{start, statement, column, condition, network, value, end}
 use Rattle.stored.specs.declared.items.Effect.{Effect}
 use Rattle.stored.specs.declared.items.Effect.the-variants as E
@@ -121,32 +121,33 @@ pub record There (e : Entry) (t : List ℕ) (at : ℕ) : Type 0 where
   pub found : recordAt t at ≡ R.Is (itemOf e) (at + 1) (length (recordOf (itemOf e) (bytesOf e)) - 1)
   pub again : entryOf (itemOf e) (take (length (recordOf (itemOf e) (bytesOf e)) - 1) (drop (at + 1) t)) ≡ e
 
-there : (s : State) (e : Entry) (u : State) → Fits e → Turned s e u → (front back : List ℕ)
+-- an entry that has a record is found by it, wherever it stands
+pub there : (e : Entry) → HasRecord e → (front back : List ℕ)
     → There e (front ++ (recordOf (itemOf e) (bytesOf e) ++ back)) (length front)
-there s (start n) u f h front back = record { found = bytes-there front (n ∷ []) back 0x01 refl; again = refl }
-there s (statement e) u f h front back =
+there (start n) h front back = record { found = bytes-there front (n ∷ []) back 0x01 refl; again = refl }
+there (statement e) h front back =
     record {
       found = bytes-there front (effectCode e ∷ []) back 0x02 refl ∙ ap (known (length front + 1) 1) (statement-said e);
       again = refl;
     }
-there s (column c) u f h front back =
+there (column c) h front back =
     record {
       found = bytes-there front (columnCode c ∷ []) back 0x03 refl ∙ ap (known (length front + 1) 1) (column-said c);
       again = refl;
     }
-there s (condition o k) u f h front back =
+there (condition o k) h front back =
     record {
       found = bytes-there front (codeOf o ∷ keyCode k ∷ []) back 0x04 refl ∙ ap (known (length front + 1) 2) (condition-said o k);
       again = refl;
     }
-there s (network a n) u f h front back =
+there (network a n) h front back =
     record {
       found =
           bytes-there front ((a / 0x1000000 % 0x100) ∷ (a / 0x10000 % 0x100) ∷ (a / 0x100 % 0x100) ∷ (a % 0x100) ∷ n ∷ []) back 0x06 refl
-          ∙ ap (λ (x : ℕ). R.Is (I.Network x n) (length front + 1) 5) (address-said a f);
+          ∙ ap (λ (x : ℕ). R.Is (I.Network x n) (length front + 1) 5) (address-said a h);
       again = refl;
     }
-there s (value bs) u f h front back =
+there (value bs) h front back =
     let kind = value-said (length bs) (h .0) (h .1) in
     let size : suc (length bs) - 1 ≡ length bs = omega arith in
     let same : sizeOf (kindOf (length bs + 0x3F)) ≡ length bs = rw kind in
@@ -156,12 +157,22 @@ there s (value bs) u f h front back =
           ∙ rw (kind, size);
       again = rw size (ap value (body-there front bs back (length bs + 0x3F) same));
     }
-there s end u f h front back = record { found = bytes-there front [] back 0x05 refl; again = refl }
+there end h front back = record { found = bytes-there front [] back 0x05 refl; again = refl }
+
+-- an entry that the state machine takes has a record, where its address has 32 bits
+has-record : (s : State) (e : Entry) (u : State) → Fits e → Turned s e u → HasRecord e
+has-record s (start n) u f h = tt
+has-record s (statement e) u f h = tt
+has-record s (column c) u f h = tt
+has-record s (condition o k) u f h = tt
+has-record s (network a n) u f h = f
+has-record s (value bs) u f h = (h .0, h .1)
+has-record s end u f h = tt
 
 -- the record of an entry that the state machine takes is found as that entry's, wherever it stands
 pub entry-there : (s : State) (e : Entry) (u : State) → Fits e → admit s e ≡ T.Next u → (front back : List ℕ)
     → There e (front ++ (recordOf (itemOf e) (bytesOf e) ++ back)) (length front)
-entry-there s e u f h front back = there s e u f (turned s e u (admitted s (itemOf e) (bytesOf e) u h .1)) front back
+entry-there s e u f h = there e (has-record s e u f (turned s e u (admitted s (itemOf e) (bytesOf e) u h .1)))
 
 -- a part of a byte string is one
 pub bytes-take : (n : ℕ) (l : List ℕ) → Bytes l → Bytes (take n l)

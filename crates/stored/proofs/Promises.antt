@@ -5,24 +5,30 @@ use Prim.Native.Nat.{ℕ, _≤_, _<_}
 use mathlib.Core.Path.{_≡_, sym, _∙_, ap}
 use mathlib.Core.Bool.{true}
 use mathlib.Core.List.{List, [], _∷_, _++_}
-use mathlib.Core.Logic.{_⊎_}
+use mathlib.Core.Logic.{_⊎_, _↔_}
+use lib.Dec.{eqb}
 use lib.ListN.{length, take, drop}
-use Rattle.stored.specs.Choice.{In}
-use Rattle.stored.specs.Machine.{isEnded}
+use Rattle.stored.specs.Choice.{pick, In}
+use Rattle.stored.specs.Machine.{isEnded, dueOf}
 use Rattle.stored.specs.Reading.{reading}
-use Rattle.stored.specs.Writing.{freshWriter, writing}
-use Rattle.stored.specs.Entries.{Entry, encode, entriesOf, Bytes, AllFit, Writes}
+use Rattle.stored.specs.Writing.{freshWriter, recordOf, writing}
+use Rattle.stored.specs.Entries.{Entry, itemOf, bytesOf, encode, entriesOf, Bytes, AllFit, HasRecord, Writes}
 use Rattle.stored.specs.Entries.Entry.{end}
-use Rattle.stored.specs.Tables.{Statement, rowsOf, WellFormed}
+use Rattle.stored.specs.Tables.{Statement, rowsOf, WellFormed, SoundStatement}
 use Rattle.stored.specs.declared.items.Item.{Item}
+use Rattle.stored.specs.declared.items.Item.the-variants as I
+use Rattle.stored.specs.declared.records.Kind.the-variants as K
 use Rattle.stored.specs.declared.reader.ReadAnswer.the-variants as A
 use Rattle.stored.specs.declared.writer.Writer.{Writer}
 use Rattle.stored.specs.declared.writer.WriteAnswer.the-variants as W
 use Rattle.stored.proofs.Accepting
 use Rattle.stored.proofs.Steps
 use Rattle.stored.proofs.Statements
+use Rattle.stored.proofs.EntriesFor
+use Rattle.stored.proofs.SoundValues
 use Rattle.stored.proofs.Numbers
 use Rattle.stored.proofs.RoundTrip
+use Rattle.stored.proofs.SameRefusal
 
 -- "An accepted item adds its record behind the last and changes no other byte. The round trip is for a writer started fresh and one
 -- buffer that nothing else writes": entries accepted one after the other by a fresh writer, the table at its end, read back as the
@@ -53,6 +59,11 @@ three-elements table n e = (
   Statements.well-formed table n e,
 )
 
+-- "1 to 4 go with keys 0 to 3 and values, 5 and 6 with key 4 and networks", and what 6, 7 and 8 refuse stands in no table that reads: its
+-- elements list texts of 1 to 128 bytes, a principal is `*` alone or has neither `*` nor `?`, and its conditions list what their key holds.
+pub sound-values : (table : List ℕ) (n : ℕ) → reading table ≡ A.Accepted n → (s : Statement) → In s (rowsOf table) → SoundStatement s
+sound-values = SoundValues.sound
+
 -- A table that reads is `encode` of its entries, and a fresh writer given them writes just those bytes, into any buffer that has room
 -- for them, and changes no other byte.
 pub write-read : (table : List ℕ) (n : ℕ) → Bytes table → reading table ≡ A.Accepted n
@@ -65,6 +76,11 @@ write-read = RoundTrip.write-read
 pub one-string : (first second : List ℕ) (m n : ℕ) → Bytes first → Bytes second
     → reading first ≡ A.Accepted m → reading second ≡ A.Accepted n → entriesOf first ≡ entriesOf second → first ≡ second
 one-string first second m n b c e f same = sym (accepted-whole first m b e) ∙ ap encode same ∙ accepted-whole second n c f
+
+-- Nothing of a table is lost in its statements: two tables that read with the same statements are the same bytes.
+pub nothing-lost : (first second : List ℕ) (m n : ℕ) → Bytes first → Bytes second
+    → reading first ≡ A.Accepted m → reading second ≡ A.Accepted n → rowsOf first ≡ rowsOf second → first ≡ second
+nothing-lost first second m n b c e f same = one-string first second m n b c e f (EntriesFor.same-entries first second m n e f same)
 
 -- A refusal of the reader has a number from 1 to 8 and a place of at most 16,384.
 pub refused-where : (table : List ℕ) (number place : ℕ) → reading table ≡ A.Refused number place
@@ -87,3 +103,25 @@ refused-short table number place short e =
 pub writer-numbers : (w : Writer) (item : Item) (bytes : List ℕ) (room number place : ℕ) → writing w item bytes room ≡ W.Refused number place
     → ((4 ≤ number) × (number ≤ 8) × (place ≡ w .at)) ⊎ (((number ≡ 1) × (place ≡ 16384)) ⊎ ((number ≡ 14) × (place ≡ 0)))
 writer-numbers = Numbers.writer-numbers
+
+-- What a writer that was started fresh has written so far is the records of the entries that it took, from the buffer's first byte on, and
+-- no other byte of the buffer has changed.
+pub written-so-far : (es : List Entry) (buffer : List ℕ) (w : Writer) (left : List ℕ) → Writes freshWriter buffer es w left
+    → (w .at ≡ length (encode es)) × (take (w .at) left ≡ encode es) × (drop (w .at) left ≡ drop (w .at) buffer)
+written-so-far = RoundTrip.so-far
+
+-- Behind these it refuses an entry with a number up to 8 where the reader, given the bytes written so far, the entry's record and whatever
+-- follows, refuses that record with that number, and nowhere else. (8 is the reader's last number; the whole is at most 16,384 bytes.)
+pub writer-as-reader : (es : List Entry) (buffer : List ℕ) (w : Writer) (left : List ℕ) → Writes freshWriter buffer es w left → AllFit es
+    → (e : Entry) → HasRecord e → (room : ℕ) (rest : List ℕ)
+    → length (encode es ++ (recordOf (itemOf e) (bytesOf e) ++ rest)) ≤ 16384 → (number : ℕ) → number ≤ 8
+    → (writing w (itemOf e) (bytesOf e) room ≡ W.Refused number (w .at))
+    ↔ (reading (encode es ++ (recordOf (itemOf e) (bytesOf e) ++ rest)) ≡ A.Refused number (w .at))
+writer-as-reader = SameRefusal.writer-as-reader
+
+-- "6: .. to the writer also a value of no bytes or over 128", which has no record: it is refused with the number that its kind alone
+-- decides there, `dueOf`, and with 6 where that is none.
+pub writer-no-record : (w : Writer) (bytes : List ℕ) (room : ℕ) → (length bytes ≡ 0) ⊎ (128 < length bytes)
+    → writing w I.Value bytes room
+    ≡ W.Refused (pick (eqb (dueOf (w .state) (K.Value (length bytes))) 0) 6 (dueOf (w .state) (K.Value (length bytes)))) (w .at)
+writer-no-record = SameRefusal.no-record

@@ -3,11 +3,11 @@
 use Prim.Native.Nat.{ℕ, zero, suc, _+_, _-_, _≤_, _<_}
 use mathlib.Core.Path.{_≡_, refl, sym, _∙_, ap}
 use mathlib.Core.Bool.{Bool, true, false}
-use mathlib.Core.List.{List, [], _∷_, _++_, append-assoc}
+use mathlib.Core.List.{List, [], _∷_, _++_, append-assoc, append-nil}
 use native.Mathlib.Omega.{arith}
 use lib.Dec.{ltb}
 use lib.ListN.{length, take, drop, length-append, take-append-drop, drop-of-length-le}
-use lib.Seq.{sets, take-at, drop-drop, take-append-seam, drop-append-seam}
+use lib.Seq.{sets, take-at, drop-at, drop-drop, take-append-seam, drop-append-seam}
 use borrow.Author.Tests.{ltb-false}
 use Rattle.stored.specs.Choice.{pick}
 use Rattle.stored.specs.Records.{recordAt}
@@ -101,34 +101,34 @@ record-long (network a n) = omega arith
 record-long (value bs) = omega arith
 record-long end = omega arith
 
--- entries that the state machine takes read back from their records, wherever these begin
-back-from : (es : List Entry) (s last : State) → Leads s es last → isEnded (last .phase) ≡ true → AllFit es
-    → (front t : List ℕ) (at : ℕ) → t ≡ front ++ encode es → at ≡ length front
-    → (readFrom (length t - at) t s at ≡ A.Accepted (last .rows)) × (entriesFrom t at ≡ es)
-back-from [] s last l d f front t at e h =
-    let long = ap length e in
-    let size = length-append front [] in
-    let over : length t ≤ at = omega arith in (
-      at-end (length t - at) t s at over ∙ rw (l, d),
-      ends-cut t at (past t at over),
+-- reading and the walk pass over the records of entries that the state machine takes, wherever these begin and whatever follows
+pub passes : (es : List Entry) (s last : State) → Leads s es last → AllFit es
+    → (front back t : List ℕ) (at p : ℕ) → t ≡ front ++ (encode es ++ back) → at ≡ length front → p ≡ at + length (encode es)
+    → (readFrom (length t - at) t s at ≡ readFrom (length t - p) t last p) × (entriesFrom t at ≡ es ++ entriesFrom t p)
+passes [] s last l f front back t at p e h g =
+    let same : at ≡ p = omega arith in (
+      ap (λ (q : ℕ). readFrom (length t - q) t s q) same ∙ ap (λ (x : State). readFrom (length t - p) t x p) l,
+      ap (entriesFrom t) same,
     )
-back-from (x ∷ es) s last l d f front t at e h =
+passes (x ∷ es) s last l f front back t at p e h g =
     let r = recordOf (itemOf x) (bytesOf x) in
     let n = length r - 1 in
     let u = l .0 in
-    let k = entry-there s x u (f .0) (l .1) front (encode es) in
-    let found : recordAt t at ≡ R.Is (itemOf x) (at + 1) n = rw (e, h) (k .found) in
-    let again : entryOf (itemOf x) (take n (drop (at + 1) t)) ≡ x = rw (e, h) (k .again) in
+    let whole : t ≡ front ++ (r ++ (encode es ++ back)) = e ∙ ap (front ++_) (append-assoc r (encode es) back) in
+    let k = entry-there s x u (f .0) (l .1) front (encode es ++ back) in
+    let found : recordAt t at ≡ R.Is (itemOf x) (at + 1) n = rw (whole, h) (k .found) in
+    let again : entryOf (itemOf x) (take n (drop (at + 1) t)) ≡ x = rw (whole, h) (k .again) in
     let turn : admitItem s (itemOf x) (take n (drop (at + 1) t)) ≡ T.Next u
     = sym (same-admit s (itemOf x) (take n (drop (at + 1) t))) ∙ ap (admit s) again ∙ l .1 in
     let step = steps s t at (itemOf x) (at + 1) n u found turn in
     let lies = inside t at (itemOf x) (at + 1) n found in
-    let p = at + 1 + n in
+    let next = at + 1 + n in
     let size = length-append front r in
-    let next : p ≡ length (front ++ r) = omega (arith, record-long x) in
-    let rest = back-from es u last (l .2) d (f .1) (front ++ r) t p (e ∙ sym (append-assoc front r (encode es))) next in (
-      goes t s at u p (omega arith) step ∙ rest .0,
-      goes-on t at (itemOf x) (at + 1) n found ∙ ap (_∷ entriesFrom t p) again ∙ ap (x ∷_) (rest .1),
+    let long = length-append r (encode es) in
+    let rest = passes es u last (l .2) (f .1) (front ++ r) back t next p
+    (whole ∙ sym (append-assoc front r (encode es ++ back))) (omega (arith, record-long x)) (omega (arith, record-long x)) in (
+      goes t s at u next (omega arith) step ∙ rest .0,
+      goes-on t at (itemOf x) (at + 1) n found ∙ ap (_∷ entriesFrom t next) again ∙ ap (x ∷_) (rest .1),
     )
 
 -- the records of a table's entries read as that table
@@ -136,8 +136,24 @@ pub reads-back : (es : List Entry) (last : State) → Leads freshState es last �
     → length (encode es) ≤ 16384
     → (reading (encode es) ≡ A.Accepted (last .rows)) × (entriesOf (encode es) ≡ es)
 reads-back es last l d f short =
-    let r = back-from es freshState last l d f [] (encode es) 0 refl refl in
-    (begins (encode es) short ∙ r .0, r .1)
+    let t = encode es in
+    let r = passes es freshState last l f [] [] t 0 (length t) (sym (append-nil t)) refl (omega arith) in (
+      begins t short ∙ r .0 ∙ at-end (length t - length t) t last (length t) (omega arith) ∙ rw d,
+      r .1 ∙ ap (es ++_) (ends-cut t (length t) (past t (length t) (omega arith))) ∙ append-nil es,
+    )
+
+-- what a fresh writer has written so far: the records of the entries that it took, from the buffer's first byte on
+pub so-far : (es : List Entry) (buffer : List ℕ) (last : Writer) (left : List ℕ) → Writes freshWriter buffer es last left
+    → (last .at ≡ length (encode es)) × (take (last .at) left ≡ encode es) × (drop (last .at) left ≡ drop (last .at) buffer)
+so-far es buffer last left h =
+    let k = written es freshWriter buffer last left h (omega arith) (omega arith) in
+    let place = k .place in
+    let size : length (encode es) ≡ last .at = omega arith in
+    let behind = drop (0 + length (encode es)) buffer in (
+      sym size,
+      ap (take (last .at)) (k .holds) ∙ take-at (encode es) behind (last .at) size,
+      ap (drop (last .at)) (k .holds) ∙ drop-at (encode es) behind (last .at) size ∙ ap (λ (n : ℕ). drop n buffer) (sym place),
+    )
 
 -- what a fresh writer has written, with the end as the last entry, reads back as the same entries
 pub read-write : (es : List Entry) (buffer : List ℕ) (last : Writer) (left : List ℕ) → Writes freshWriter buffer es last left
@@ -145,12 +161,7 @@ pub read-write : (es : List Entry) (buffer : List ℕ) (last : Writer) (left : L
     → (reading (take (last .at) left) ≡ A.Accepted (last .state .rows)) × (entriesOf (take (last .at) left) ≡ es)
 read-write es buffer last left h f d =
     let k = written es freshWriter buffer last left h (omega arith) (omega arith) in
-    let place = k .place in
-    let short = k .short in
-    let size : length (encode es) ≡ last .at = omega arith in
-    let bytes : take (last .at) left ≡ encode es
-    = ap (take (last .at)) (k .holds) ∙ take-at (encode es) (drop (0 + length (encode es)) buffer) (last .at) size in
-    rw bytes (reads-back es (last .state) (k .leads) d f (omega arith))
+    rw (so-far es buffer last left h .1) (reads-back es (last .state) (k .leads) d f (omega arith))
 
 -- an end that is taken last ends the table
 pub ends : (es : List Entry) (w : Writer) (buffer : List ℕ) (last : Writer) (left : List ℕ)

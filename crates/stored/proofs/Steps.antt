@@ -1,6 +1,6 @@
 -- The reader's steps: a step goes on to a later place inside the table, and more fuel than the bytes left changes nothing.
 use Prim.Native.Nat.{ℕ, zero, suc, _+_, _-_, _≤_, _<_}
-use mathlib.Core.Path.{_≡_, refl, sym, _∙_}
+use mathlib.Core.Path.{_≡_, refl, sym, _∙_, ap}
 use mathlib.Core.Bool.{Bool, true, false}
 use mathlib.Core.List.{List}
 use native.Mathlib.Omega.{arith}
@@ -22,7 +22,6 @@ use Rattle.stored.specs.declared.reader.Step.{Step}
 use Rattle.stored.specs.declared.reader.Step.the-variants as S
 use Rattle.stored.proofs.Choosing.{never}
 use Rattle.stored.proofs.Walking.{inside, kind-agrees}
-use Rattle.stored.proofs.Turns.{admitted}
 
 -- what a step that goes on has found: a record, in turn by its kind and as a whole
 pub record Taken (s : State) (t : List ℕ) (at : ℕ) (u : State) (p : ℕ) : Type 0 where
@@ -56,14 +55,26 @@ taken s t at u p = by-due (eqb due 0) refl
     by-due true e h = by-record (eqb-true due 0 e) (recordAt t at) refl h
     by-due false e h = never (cc)
 
--- a record that the state machine takes is a step that goes on behind it
+-- a record that is found is a step by the state machine's turn on its item
+pub turns : (s : State) (t : List ℕ) (at : ℕ) (i : Item) (begin size : ℕ) → recordAt t at ≡ R.Is i begin size
+    → stepAt s t at ≡ afterTurn (begin + size) (admitItem s i (take size (drop begin t)))
+unfolding stepAt admitItem
+turns s t at i begin size e = rw (e, kind-agrees t at i begin size e) (by (eqb due 0))
+  where
+    due : ℕ
+    due = dueOf s (kindOf (getD t at 0))
+
+    turn : Turn
+    turn = turnOf s i (take size (drop begin t))
+
+    by : (b : Bool) → pick b (afterTurn (begin + size) turn) (S.Stops due) ≡ afterTurn (begin + size) (pick b turn (T.Refused due))
+    by true = refl
+    by false = refl
+
+-- one that the state machine takes is a step that goes on behind it
 pub steps : (s : State) (t : List ℕ) (at : ℕ) (i : Item) (begin size : ℕ) (u : State) → recordAt t at ≡ R.Is i begin size
     → admitItem s i (take size (drop begin t)) ≡ T.Next u → stepAt s t at ≡ S.Goes u (begin + size)
-unfolding stepAt
-steps s t at i begin size u e h =
-    let a = admitted s i (take size (drop begin t)) u h in
-    let due : dueOf s (kindOf (getD t at 0)) ≡ 0 = rw (kind-agrees t at i begin size e) at (a .0) in
-    rw (due, e, a .1)
+steps s t at i begin size u e h = turns s t at i begin size e ∙ ap (afterTurn (begin + size)) h
 
 -- a step goes on to a later place inside the table
 pub goes-inside : (s : State) (t : List ℕ) (at : ℕ) (u : State) (p : ℕ) → stepAt s t at ≡ S.Goes u p → (at < p) × (p ≤ length t)
@@ -100,7 +111,7 @@ enough (suc f) (suc g) t s at hf hg =
     by-place false e go = refl
 
 -- before the end reading is a step, and what comes after it
-after : (t : List ℕ) (s : State) (at : ℕ) → at < length t
+pub after : (t : List ℕ) (s : State) (at : ℕ) → at < length t
     → readFrom (length t - at) t s at ≡ afterStep (readFrom (length t - at) t) at (stepAt s t at)
 after t s at h =
     enough (length t - at) (suc (length t - at)) t s at (omega arith) (omega arith)

@@ -28,11 +28,11 @@ use Rattle.stored.specs.declared.machine.Turn.the-variants as T
 use Rattle.stored.proofs.Choosing.{never}
 
 -- a choice between a refusal and a turn that ends in a next state
-refused-else : (b : Bool) (m : ℕ) (x : Turn) (u : State) → pick b (T.Refused m) x ≡ T.Next u → (b ≡ false) × (x ≡ T.Next u)
+pub refused-else : (b : Bool) (m : ℕ) (x : Turn) (u : State) → pick b (T.Refused m) x ≡ T.Next u → (b ≡ false) × (x ≡ T.Next u)
 refused-else true m x u e = never (cc)
 refused-else false m x u e = (refl, e)
 
-else-refused : (b : Bool) (x : Turn) (m : ℕ) (u : State) → pick b x (T.Refused m) ≡ T.Next u → (b ≡ true) × (x ≡ T.Next u)
+pub else-refused : (b : Bool) (x : Turn) (m : ℕ) (u : State) → pick b x (T.Refused m) ≡ T.Next u → (b ≡ true) × (x ≡ T.Next u)
 else-refused true x m u e = (refl, e)
 else-refused false x m u e = never (cc)
 
@@ -102,7 +102,8 @@ Turned s (network a n) u = u ≡ filledState s (s .values + 1)
 Turned s (value bs) u = (0 < length bs) × (length bs ≤ 128) × (u ≡ filledState s (s .values + 1))
 Turned s end u = u ≡ endedState s
 
-sized : (p : Phase) (sort : Sort) (bs : List ℕ) → valueFault p sort bs ≡ 0 → (0 < length bs) × (length bs ≤ 128)
+-- a value with no fault has 1 to 128 bytes
+pub sized : (p : Phase) (sort : Sort) (bs : List ℕ) → valueFault p sort bs ≡ 0 → (0 < length bs) × (length bs ≤ 128)
 sized p sort bs = go (eqb (length bs) 0) refl (ltb 128 (length bs)) refl
   where
     rest : ℕ

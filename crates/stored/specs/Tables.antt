@@ -3,15 +3,22 @@
 use Prim.Native.Nat.{ℕ, _+_, _≤_, _<_}
 use mathlib.Core.Path.{_≡_}
 use mathlib.Core.List.{List, [], _∷_}
+use mathlib.Core.Bool.{true, false}
+use mathlib.Core.Logic.{_⊎_}
 use lib.ListN.{length}
 use Rattle.stored.specs.Choice.{In}
-use Rattle.stored.specs.Items.{columnPlace}
+use Rattle.stored.specs.Items.{columnPlace, keySort}
+use Rattle.stored.specs.Operators.{rowOf}
+use Rattle.stored.specs.Values.{inRange, hasVariable, hasWildcard, isStarAlone}
+use Rattle.stored.specs.Networks.{networkSound}
 use Rattle.stored.specs.Entries.{Entry, entriesOf}
 use Rattle.stored.specs.Entries.Entry.{start, statement, column, condition, network, value, end}
 use Rattle.stored.specs.declared.items.Effect.{Effect}
 use Rattle.stored.specs.declared.items.Column.{Column}
 use Rattle.stored.specs.declared.items.Operator.{Operator}
 use Rattle.stored.specs.declared.items.Key.{Key}
+use Rattle.stored.specs.declared.items.Sort.{Sort}
+use Rattle.stored.specs.declared.items.Sort.the-variants as S
 
 -- what a list holds
 pub data Listed : Type 0 where
@@ -111,3 +118,26 @@ pub record WellFormed (s : Statement) : Type 0 where
   pub few-conditions : length (s .conditions) ≤ 4
   pub conditions-filled : (c : Condition) → In c (s .conditions) → 0 < length (c .values)
   pub few-values : heldBy s ≤ 64
+
+-- what a list of a sort may hold: texts of 1 to 128 bytes, each of 21 to 7E hex, without `${`; or networks with a length of at most 32 and
+-- the bits after the length zero
+abbrev pub MayHold : Sort → Listed → Type 0
+MayHold S.Text (text bs) = (0 < length bs) × (length bs ≤ 128) × (inRange bs ≡ true) × (hasVariable bs ≡ false)
+MayHold S.Text (range a n) = ⊥
+MayHold S.Address (text bs) = ⊥
+MayHold S.Address (range a n) = networkSound a n ≡ true
+
+-- an element lists texts, and a principal is `*` alone or has neither `*` nor `?`
+pub record SoundElement (e : Element) : Type 0 where
+  pub holds : (x : Listed) → In x (e .values) → MayHold S.Text x
+  pub principals : columnPlace (e .name) ≡ 0 → (bs : List ℕ) → In (text bs) (e .values) → (isStarAlone bs ≡ true) ⊎ (hasWildcard bs ≡ false)
+
+-- the operator and the key of a condition are of one sort, and so is what it lists
+pub record SoundCondition (c : Condition) : Type 0 where
+  pub one-sort : rowOf (c .operator) .sort ≡ keySort (c .key)
+  pub holds : (x : Listed) → In x (c .values) → MayHold (keySort (c .key)) x
+
+-- a statement whose elements and conditions list only what they may
+pub record SoundStatement (s : Statement) : Type 0 where
+  pub elements : (e : Element) → In e (s .elements) → SoundElement e
+  pub conditions : (c : Condition) → In c (s .conditions) → SoundCondition c
