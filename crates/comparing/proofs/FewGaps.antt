@@ -8,19 +8,24 @@ use mathlib.Core.Logic.{inl, inr}
 use native.Mathlib.Omega.{arith}
 use lib.ListN.{length, length-append, length-map}
 use Rattle.stored.specs.Tables.{Statement}
+use Rattle.stored.proofs.Choosing.{never}
 use Rattle.judging.specs.Requests.{Value}
+use Rattle.judging.specs.Judging.{rowsOf}
 use Rattle.comparing.specs.Order.{Earlier, In, Ascending}
 use Rattle.comparing.specs.Requests.{Admitted, Each}
 use Rattle.comparing.specs.Gaps.{footprint, AlikeFrom, FirstOf, Counted}
 use Rattle.comparing.specs.Counts.{Apart}
-use Rattle.comparing.specs.Compared.{CountsFrom, product}
+use Rattle.comparing.specs.Compared.{mostKinds, CountsFrom, product, Compared}
 use Rattle.comparing.specs.Product.{inFront, productOf}
+use Rattle.comparing.specs.Outcomes.{short, firstTable, secondTable, wide, crowded, manyKinds, answered, CountOutcome}
+use Rattle.comparing.specs.declared.answers.Counting.the-variants as C
 use Rattle.comparing.proofs.Order.{earlier-asym}
 use Rattle.comparing.proofs.Unique.{firsts-unique, firsts-admitted}
 use Rattle.comparing.proofs.Pigeonhole.{fits}
 use Rattle.comparing.proofs.Product.{front-in}
 use Rattle.comparing.proofs.OneAnswer.{counts-length}
 use Rattle.comparing.proofs.Alike.{each-length}
+use Rattle.comparing.proofs.Outcomes.{compared-exactly}
 
 -- each value in front of each request makes their product
 front-length : (values : List Value) (requests : List (List Value)) → length (inFront values requests) ≡ length values * length requests
@@ -38,8 +43,8 @@ module _ (first second : List Statement) where
   -- requests with the same footprints are alike
   same-alike : (column : ℕ) (r s : List Value) → footprints column r ≡ footprints column s → AlikeFrom first second column r s
   same-alike column [] [] e = tt
-  same-alike column [] (w ∷ s) e = let z : _≡_ {A = ℕ} 0 1 = cc in omega arith
-  same-alike column (v ∷ r) [] e = let z : _≡_ {A = ℕ} 0 1 = cc in omega arith
+  same-alike column [] (w ∷ s) e = never (cc)
+  same-alike column (v ∷ r) [] e = never (cc)
   same-alike column (v ∷ r) (w ∷ s) e = (cc, same-alike (suc column) r s (cc))
 
   -- requests of first values that ascend have different footprints
@@ -93,3 +98,18 @@ module _ (first second : List Statement) where
         fits (footprints 0) (c .list) (productOf (valuesFor 0 counts are)) (gaps-apart (c .list) (c .gaps .order) (c .gaps .firsts))
         (λ r i. kinds-complete 0 counts are r (firsts-admitted first second 0 r (c .gaps .firsts r i)))
       )
+
+-- so a number of gaps that is answered is at most 16,777,216
+pub count-low : (room : ℕ) (a b : List ℕ) (n : ℕ) → Compared room a b (C.Gaps n) → n ≤ mostKinds
+count-low room a b n c = by (compared-exactly room a b (C.Gaps n) .0 c)
+  where
+    by : CountOutcome room a b (C.Gaps n) → n ≤ mostKinds
+    by (short s e) = never (cc)
+    by (firstTable long m place f e) = never (cc)
+    by (secondTable long table m place f e) = never (cc)
+    by (wide both d w e) = never (cc)
+    by (crowded both narrow d k e) = never (cc)
+    by (manyKinds both counts passed over e) = never (cc)
+    by (answered both counts passed within (m, counted, e)) =
+        let same : m ≡ n = cc in
+        omega (arith, few-gaps (rowsOf a) (rowsOf b) m counts counted (passed .footprints))

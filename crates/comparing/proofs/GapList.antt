@@ -16,8 +16,8 @@ use Rattle.judging.specs.Meaning.{isAllowed}
 use Rattle.judging.specs.Judging.{rowsOf, judgement}
 use Rattle.judging.specs.declared.judge.Judgement.the-variants as J
 use Rattle.comparing.specs.Order.{Earlier, In}
-use Rattle.comparing.specs.Requests.{IsRequest}
-use Rattle.comparing.specs.Gaps.{AlikeFrom, Gap, Gaps, Counted, IsGap}
+use Rattle.comparing.specs.Requests.{Each, IsRequest}
+use Rattle.comparing.specs.Gaps.{AlikeFrom, FirstOf, Gap, Gaps, Counted, IsGap}
 use Rattle.comparing.proofs.Order.{earlier-asym}
 use Rattle.comparing.proofs.Unique.{firsts-unique, firsts-admitted}
 use Rattle.comparing.proofs.Members.{in-at, ascending-at}
@@ -79,6 +79,19 @@ module _ (first second : List Statement) where
             size = refl;
           }
 
+module _ (first second : List Statement) (k : ℕ) (r : List Value) (g : IsGap first second k r) where
+  -- gap k is listed
+  pub gap-listed : In r (g .list)
+  gap-listed = subst (λ (s : List Value). In s (g .list)) (sym (g .here)) (in-at (g .list) k [] (g .low))
+
+  -- each of its columns holds a first value
+  pub gap-firsts : Each (FirstOf first second) 0 r
+  gap-firsts = g .gaps .firsts r gap-listed
+
+  -- it is a request
+  pub gap-request : IsRequest r
+  gap-request = firsts-admitted first second 0 r gap-firsts
+
 -- "Asked for gap k (from 0), it shows the first value of each column": the judge, given the request that is gap k, says Allowed by the
 -- first table and does not by the second.
 pub gap-shows : (a b : List ℕ) (m n : ℕ) → reading a ≡ A.Accepted m → reading b ≡ A.Accepted n
@@ -89,14 +102,11 @@ gap-shows a b m n ra rb k r g = (
   λ e. true≢false (sym (judged-exactly b n rb r ok .0 e) ∙ gap .missed),
 )
   where
-    member : In r (g .list)
-    member = subst (λ (s : List Value). In s (g .list)) (sym (g .here)) (in-at (g .list) k [] (g .low))
-
     ok : IsRequest r
-    ok = firsts-admitted (rowsOf a) (rowsOf b) 0 r (g .gaps .firsts r member)
+    ok = gap-request (rowsOf a) (rowsOf b) k r g
 
     gap : Gap (rowsOf a) (rowsOf b) r
-    gap = g .gaps .gap r member
+    gap = g .gaps .gap r (gap-listed (rowsOf a) (rowsOf b) k r g)
 
 -- `none-exactly` in the judge's words: two tables that read have no gaps exactly when every request that the judge allows by the first
 -- it allows by the second.

@@ -2,6 +2,7 @@
 pub mod Order
 pub mod Members
 pub mod Unique
+pub mod Eight
 pub mod Alike
 pub mod Product
 pub mod Judged
@@ -13,9 +14,14 @@ pub mod Deciding
 pub mod Admitting
 pub mod NoValues
 pub mod Pigeonhole
-pub mod Refusals
+pub mod Lowest
 pub mod OneAnswer
 pub mod GapList
-pub mod FewGaps
 pub mod ShownRequest
+pub mod ShortValues
+pub mod Outcomes
+pub mod FewGaps
+pub mod Means
+pub mod Requests
+pub mod SearchPromises
 pub mod Promises

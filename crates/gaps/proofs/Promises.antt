@@ -10,14 +10,14 @@ use Rattle.comparing.specs.declared.answers.Shape.{Shape}
 use Rattle.comparing.specs.declared.answers.Showing.the-variants as S
 use Rattle.gaps.specs.Split.{passedAt, firstEnd}
 use Rattle.gaps.specs.Lines.{ascii, decimalOf, dotted, countLine, refusalLine, gapLine}
-use Rattle.comparing.proofs.ShownRequest
+use Rattle.comparing.proofs.Promises.{shown-means}
 
 -- "It prints `gaps N`, then the first 16 gaps, one a line": the request that is read off an answer for gap k and the value buffer, whose
 -- line is printed, is gap k.
 pub gap-printed : (words : ℕ) (a b : List ℕ) (k : ℕ) (buffer : List ℕ) (shape : Shape) (values : List ℕ)
     → Shown words a b k buffer (S.Shown shape, values)
     → IsGap (rowsOf a) (rowsOf b) k (requestShown shape values)
-gap-printed words a b k buffer shape values h = ShownRequest.shown-gap k buffer values shape a b words h
+gap-printed words a b k buffer shape values h = shown-means words a b k buffer shape values h .gap
 
 -- The sample's gap, and the line of a request that has every key, one of them with no bytes.
 pub sample-line : gapLine 0 (text (ascii "!") ∷ text (ascii "A") ∷ text (ascii "r") ∷ absent ∷ absent ∷ absent ∷ absent ∷ absent ∷ [])
