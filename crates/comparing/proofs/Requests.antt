@@ -34,7 +34,7 @@ use Rattle.comparing.proofs.Judged.{no-faults}
 use Rattle.comparing.proofs.ShownRequest.{needed-bytes, key-bytes, address-number}
 
 -- bytes from 21 to 7E hex are bytes
-in-range-bytes : (s : List ℕ) → inRange s ≡ true → Bytes s
+pub in-range-bytes : (s : List ℕ) → inRange s ≡ true → Bytes s
 in-range-bytes [] e = tt
 in-range-bytes (b ∷ s) e =
     let high = leb-true b 0x7E (both-right (leb 0x21 b) (leb b 0x7E) (both-left (byteInRange b) (inRange s) e)) in

@@ -16,7 +16,7 @@ use Rattle.comparing.specs.Compared.{valueRoom, bytesIn, addressIn, padd
 use Rattle.comparing.proofs.Eight.{of-eight}
 
 -- a value and the zeros behind it fill its room
-room : (s : List ℕ) → length s ≤ valueRoom → length (padded s) ≡ 512
+pub room : (s : List ℕ) → length s ≤ valueRoom → length (padded s) ≡ 512
 room s h =
     length-append s (replicate (valueRoom - length s) 0)
     ∙ ap (λ (n : ℕ). length s + n) (length-replicate (valueRoom - length s) 0)

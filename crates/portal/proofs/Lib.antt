@@ -2,4 +2,8 @@
 pub mod Flags
 pub mod Fitting
 pub mod JudgeBack
+pub mod GapsBack
+pub mod ShownStrings
+pub mod AskedBack
+pub mod AskedJudged
 pub mod Promises

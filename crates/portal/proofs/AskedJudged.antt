@@ -1,0 +1,171 @@
+-- What the number that the judge's entry point returns for a question means: 1 is given exactly for what a table that reads allows, and
+-- the number of gaps is 0 exactly where every question with the answer 1 by the first table has it by the second.
+use Prim.Native.Nat.{ℕ, suc, _+_, _*_, _^_, _≤_, _<_}
+use mathlib.Core.Path.{_≡_, refl, sym, _∙_, ap, subst}
+use mathlib.Core.Bool.{Bool, true, false}
+use mathlib.Core.List.{List, [], _∷_}
+use mathlib.Core.Logic.{_↔_}
+use native.Mathlib.Omega.{arith}
+use lib.Dec.{ltb}
+use lib.ListN.{length}
+use borrow.Author.Tests.{ltb-true, ltb-false}
+use Rattle.stored.specs.Choice.{pick}
+use Rattle.stored.specs.Reading.{reading}
+use Rattle.stored.specs.declared.reader.ReadAnswer.{ReadAnswer}
+use Rattle.stored.specs.declared.reader.ReadAnswer.the-variants as A
+use Rattle.stored.proofs.Choosing.{never, pick-cases}
+use Rattle.judging.specs.Requests.{Value, columns, isFaulty, firstFault, requestOf}
+use Rattle.judging.specs.Meaning.{isAllowed, someAllows, someDenies}
+use Rattle.judging.specs.Judging.{rowsOf, verdict, judgement}
+use Rattle.judging.specs.declared.judge.Judgement.{Judgement}
+use Rattle.judging.specs.declared.judge.Judgement.the-variants as J
+use Rattle.judging.specs.declared.request.Present.{Present}
+use Rattle.judging.proofs.Promises.{refused-first, refused-request, allowed-exactly}
+use Rattle.judging.proofs.Refusing.{table-reads, request-sound}
+use Rattle.comparing.specs.Requests.{IsRequest}
+use Rattle.comparing.specs.Compared.{Compared}
+use Rattle.comparing.specs.Outcomes.{IsTable}
+use Rattle.comparing.specs.Means.{Said, NotRefused}
+use Rattle.comparing.specs.declared.answers.Counting.the-variants as C
+use Rattle.comparing.proofs.Promises.{requests-all, none-means}
+use Rattle.portal.specs.Codes.{presentOf, flagsOf, judgementCode}
+use Rattle.portal.specs.Answers.{Counts}
+use Rattle.portal.specs.Saying.{GapsSay}
+use Rattle.portal.specs.Asked.{Asked, CanBeAsked, requestAsked, judgeReturns}
+use Rattle.portal.proofs.Flags.{flags-low, keys-read}
+use Rattle.portal.proofs.JudgeBack.{judge-allowed}
+use Rattle.portal.proofs.GapsBack.{gaps-read-back}
+
+-- the lowest faulty column is one of the columns, or behind them
+fault-high : (column : ℕ) (r : List Value) → firstFault column r ≤ column + length r
+fault-high column [] = omega arith
+fault-high column (v ∷ r) = by (isFaulty column v) (fault-high (suc column) r)
+  where
+    by : (t : Bool) → firstFault (suc column) r ≤ suc column + length r → pick t column (firstFault (suc column) r) ≤ column + suc (length r)
+    by true h = omega arith
+    by false h = omega arith
+
+-- what the judge allows: the table reads, and the request has no faulty column
+allowed-sound : (table : List ℕ) (r : List Value) → length r ≡ columns → judgement table r ≡ J.Allowed
+    → IsTable table × (firstFault 0 r ≡ columns)
+allowed-sound table r eight e = by (reading table) refl (ltb (firstFault 0 r) columns) refl
+  where
+    by : (answer : ReadAnswer) → reading table ≡ answer → (t : Bool) → ltb (firstFault 0 r) columns ≡ t
+        → IsTable table × (firstFault 0 r ≡ columns)
+    by (A.Refused n place) reads t f = let no = refused-first table r n place reads in never (cc)
+    by (A.Accepted n) reads true f = let no = refused-request table r n reads (ltb-true (firstFault 0 r) columns f) in never (cc)
+    by (A.Accepted n) reads false f = ((n, reads), omega (arith, ltb-false (firstFault 0 r) columns f, fault-high 0 r))
+
+-- The judge returns 1 exactly for a request without fault that the statements of a table that reads allow.
+pub one-exactly : (table : List ℕ) (q : Asked)
+    → (judgeReturns table q ≡ 1) ↔ (IsTable table × (firstFault 0 (requestAsked q) ≡ columns) × (isAllowed (requestAsked q) (rowsOf table) ≡ true))
+one-exactly table q = (to, from)
+  where
+    to : judgeReturns table q ≡ 1 → IsTable table × (firstFault 0 (requestAsked q) ≡ columns) × (isAllowed (requestAsked q) (rowsOf table) ≡ true)
+    to one =
+        let allowed = judge-allowed table (requestAsked q) 1 (sym one) .0 refl in
+        let (reads, sound) = allowed-sound table (requestAsked q) refl allowed in
+        (reads, sound, allowed-exactly table (requestAsked q) (reads .0) (reads .1) sound .0 allowed)
+
+    from : IsTable table × (firstFault 0 (requestAsked q) ≡ columns) × (isAllowed (requestAsked q) (rowsOf table) ≡ true) → judgeReturns table q ≡ 1
+    from (reads, sound, allows) = ap judgementCode (allowed-exactly table (requestAsked q) (reads .0) (reads .1) sound .1 allows)
+
+-- a judgement is not refusal 9 at a column
+abbrev Not9 : ℕ → Judgement → Type 0
+Not9 c j = j ≡ J.Refused 9 c → ⊥
+
+-- a request without fault is refused with 9 by no table
+sound-taken : (r : List Value) → firstFault 0 r ≡ columns → NotRefused r
+sound-taken r sound t (n, reads) c e =
+    none (request-sound r (rowsOf t) (firstFault 0 r) refl (omega (arith, sound)) ∙ table-reads t r n reads ∙ e)
+  where
+    none : verdict r (rowsOf t) ≡ J.Refused 9 c → ⊥
+    none =
+        pick-cases (Not9 c) (someDenies r (rowsOf t)) J.DeniedByRule (pick (someAllows r (rowsOf t)) J.Allowed J.NotMentioned) (λ f g. never (cc))
+        (λ f. pick-cases (Not9 c) (someAllows r (rowsOf t)) J.Allowed J.NotMentioned (λ g h. never (cc)) (λ g h. never (cc)))
+
+-- what can be asked and is allowed by some table is a request
+asked-request : (table : List ℕ) (q : Asked) → CanBeAsked q → judgement table (requestAsked q) ≡ J.Allowed → IsRequest (requestAsked q)
+asked-request table q can allowed =
+    requests-all (requestAsked q) .1
+    (record {
+      principal = q .principal;
+      action = q .action;
+      resource = q .resource;
+      present = presentOf (q .present);
+      vpc = q .vpc;
+      prefix = q .prefix;
+      vpce = q .vpce;
+      referer = q .referer;
+      address = q .address;
+      bytes = (can .principal, can .action, can .resource, can .vpc, can .prefix, can .vpce, can .referer);
+      small = can .address;
+      is = refl;
+    }, sound-taken (requestAsked q) (allowed-sound table (requestAsked q) refl allowed .1))
+
+-- every request can be asked about
+asks-about : (r : List Value) → IsRequest r → (q : Asked) × CanBeAsked q × (requestAsked q ≡ r)
+asks-about r ok = (q, can, same)
+  where
+    said : Said r
+    said = requests-all r .0 ok .0
+
+    q : Asked
+    q =
+        record {
+          principal = said .principal;
+          action = said .action;
+          resource = said .resource;
+          present = flagsOf (said .present);
+          vpc = said .vpc;
+          prefix = said .prefix;
+          vpce = said .vpce;
+          referer = said .referer;
+          address = said .address;
+        }
+
+    can : CanBeAsked q
+    can =
+        record {
+          principal = said .bytes .0;
+          action = said .bytes .1;
+          resource = said .bytes .2;
+          present = omega (arith, flags-low (said .present));
+          vpc = said .bytes .3;
+          prefix = said .bytes .4;
+          vpce = said .bytes .5;
+          referer = said .bytes .6;
+          address = said .small;
+        }
+
+    same : requestAsked q ≡ r
+    same =
+        ap (λ (p : Present). requestOf (said .principal) (said .action) (said .resource) p (said .vpc) (said .prefix) (said .vpce) (said .referer) (said .address))
+        (ap presentOf low ∙ keys-read (said .present) 0)
+        ∙ sym (said .is)
+      where
+        low : flagsOf (said .present) ≡ 0 * 32 + flagsOf (said .present)
+        low = omega arith
+
+-- The number of gaps is 0 exactly where all that the judge allows by the first table it allows by the second.
+pub zero-exactly : (first second : List ℕ) (r : ℕ) → Counts first second r → r < 2 ^ 32
+    → (r ≡ 0) ↔ ((q : Asked) → CanBeAsked q → judgeReturns first q ≡ 1 → judgeReturns second q ≡ 1)
+zero-exactly first second r counts low = by (gaps-read-back first second r counts)
+  where
+    by : GapsSay first second r → (r ≡ 0) ↔ ((q : Asked) → CanBeAsked q → judgeReturns first q ≡ 1 → judgeReturns second q ≡ 1)
+    by (GapsSay.refused high compared some) = absurd (omega arith)
+    by (GapsSay.counted below compared) = (to, from)
+      where
+        to : r ≡ 0 → (q : Asked) → CanBeAsked q → judgeReturns first q ≡ 1 → judgeReturns second q ≡ 1
+        to none q can one =
+            let allowed = judge-allowed first (requestAsked q) 1 (sym one) .0 refl in
+            ap judgementCode (none-means 8192 first second r compared .0 none (requestAsked q) (asked-request first q can allowed) allowed)
+
+        from : ((q : Asked) → CanBeAsked q → judgeReturns first q ≡ 1 → judgeReturns second q ≡ 1) → r ≡ 0
+        from all = none-means 8192 first second r compared .1 allows
+          where
+            allows : (x : List Value) → IsRequest x → judgement first x ≡ J.Allowed → judgement second x ≡ J.Allowed
+            allows x ok allowed =
+                let (q, can, same) = asks-about x ok in
+                let one = all q can (ap (λ (y : List Value). judgementCode (judgement first y)) same ∙ ap judgementCode allowed) in
+                ap (judgement second) (sym same) ∙ judge-allowed second (requestAsked q) 1 (sym one) .0 refl
