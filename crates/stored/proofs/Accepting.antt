@@ -9,7 +9,6 @@ use lib.Dec.{ltb}
 use lib.ListN.{length, take, drop}
 use borrow.Author.Tests.{ltb-true, ltb-false, eqb-true}
 use Rattle.stored.specs.Choice.{pick}
-use Rattle.stored.specs.Operators.{rowOf}
 use Rattle.stored.specs.Machine.{freshState, isEnded, takesKind, columnPhase, countedState, openedState, listedState, filledState, endedState, kindOfItem}
 use Rattle.stored.specs.Reading.{finishOf, stepAt, afterStep, readFrom, reading}
 use Rattle.stored.specs.Entries.{Entry, entryOf, itemOf, bytesOf, entriesFrom, entriesOf, admit, Follows, Accepted}

@@ -10,8 +10,7 @@ use Rattle.stored.specs.Machine.{isEnded, takesKind, columnPhase, counte
 use Rattle.stored.specs.Reading.{reading}
 use Rattle.stored.specs.Entries.{Entry, itemOf, bytesOf, entriesOf}
 use Rattle.stored.specs.Entries.Entry.{start, statement, column, condition, network, value, end}
-use Rattle.stored.specs.Tables.{Listed, Element, Condition, Statement, Part, gather, tableOf, rowsOf}
-use Rattle.stored.specs.Tables.Listed.{text, range}
+use Rattle.stored.specs.Tables.{Part, gather, tableOf, rowsOf, listedFor, elementsFor, conditionsFor, statementsFor, entriesFor}
 use Rattle.stored.specs.declared.items.Sort.the-variants as O
 use Rattle.stored.specs.declared.records.Kind.{Kind}
 use Rattle.stored.specs.declared.machine.Phase.{Phase}
@@ -21,31 +20,9 @@ use Rattle.stored.specs.declared.reader.ReadAnswer.the-variants as A
 use Rattle.stored.proofs.Choosing.{never}
 use Rattle.stored.proofs.Accepting.{Leads, isFresh, start-first, column-fresh, column-ended, took, rows-left, starts, read-leads}
 
--- the entries that lists, elements, conditions and statements stand for, in front of others
-abbrev listed : List Listed → List Entry → List Entry
-listed [] es = es
-listed (text bs ∷ l) es = value bs ∷ listed l es
-listed (range a n ∷ l) es = network a n ∷ listed l es
-
-abbrev elements : List Element → List Entry → List Entry
-elements [] es = es
-elements (e ∷ l) es = column (e .name) ∷ listed (e .values) (elements l es)
-
-abbrev conditions : List Condition → List Entry → List Entry
-conditions [] es = es
-conditions (c ∷ l) es = condition (c .operator) (c .key) ∷ listed (c .values) (conditions l es)
-
-abbrev statements : List Statement → List Entry
-statements [] = end ∷ []
-statements (s ∷ l) = statement (s .effect) ∷ elements (s .elements) (conditions (s .conditions) (statements l))
-
--- the entries of a table with these statements
-abbrev entriesFor : List Statement → List Entry
-entriesFor rows = start (length rows) ∷ statements rows
-
 -- the entries that stand behind a place of a table
 abbrev part : Part → List Entry
-part p = listed (p .values) (elements (p .elements) (conditions (p .conditions) (statements (p .rows))))
+part p = listedFor (p .values) (elementsFor (p .elements) (conditionsFor (p .conditions) (statementsFor (p .rows))))
 
 -- nothing is taken behind the end
 ended-takes : (p : Phase) → isEnded p ≡ true → (left : ℕ) (k : Kind) → takesKind p left k ≡ false
@@ -147,14 +124,9 @@ stands-for t n e =
     let rows = tableOf (k .rest) in
     let none = nothing-before (k .rest) (k .number) (l .last) (k .leads) in
     let count : length rows ≡ k .number = rows-left (k .rest) (countedState (k .number)) (l .last) (k .leads) (l .ended) refl (λ h. never (cc)) .0 in
-    let rest : k .rest ≡ statements rows
+    let rest : k .rest ≡ statementsFor rows
     = rw (none .0, none .1, none .2) at (unfolds (k .rest) (countedState (k .number)) (l .last) (k .leads) (l .ended) refl refl) in
     k .first
     ∙ ap (λ (m : ℕ). start m ∷ k .rest) (sym count)
     ∙ ap (start (length rows) ∷_) rest
     ∙ ap (λ (es : List Entry). entriesFor (tableOf es)) (sym (k .first))
-
--- tables with the same statements have the same entries
-pub same-entries : (first second : List ℕ) (m n : ℕ) → reading first ≡ A.Accepted m → reading second ≡ A.Accepted n
-    → rowsOf first ≡ rowsOf second → entriesOf first ≡ entriesOf second
-same-entries first second m n e f same = stands-for first m e ∙ ap entriesFor same ∙ sym (stands-for second n f)

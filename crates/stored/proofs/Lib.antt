@@ -17,4 +17,5 @@ pub mod OneRecord
 pub mod Placing
 pub mod RoundTrip
 pub mod SameRefusal
+pub mod FormReads
 pub mod Promises

@@ -14,7 +14,7 @@ use Rattle.stored.specs.Reading.{reading}
 use Rattle.stored.specs.Writing.{freshWriter, recordOf, writing}
 use Rattle.stored.specs.Entries.{Entry, itemOf, bytesOf, encode, entriesOf, Bytes, AllFit, HasRecord, Writes}
 use Rattle.stored.specs.Entries.Entry.{end}
-use Rattle.stored.specs.Tables.{Statement, rowsOf, WellFormed, SoundStatement}
+use Rattle.stored.specs.Tables.{Statement, rowsOf, entriesFor, WellFormed, SoundStatement}
 use Rattle.stored.specs.declared.items.Item.{Item}
 use Rattle.stored.specs.declared.items.Item.the-variants as I
 use Rattle.stored.specs.declared.records.Kind.the-variants as K
@@ -29,6 +29,7 @@ use Rattle.stored.proofs.SoundValues
 use Rattle.stored.proofs.Numbers
 use Rattle.stored.proofs.RoundTrip
 use Rattle.stored.proofs.SameRefusal
+use Rattle.stored.proofs.FormReads
 
 -- "An accepted item adds its record behind the last and changes no other byte. The round trip is for a writer started fresh and one
 -- buffer that nothing else writes": entries accepted one after the other by a fresh writer, the table at its end, read back as the
@@ -77,17 +78,29 @@ pub one-string : (first second : List ℕ) (m n : ℕ) → Bytes first → Bytes
     → reading first ≡ A.Accepted m → reading second ≡ A.Accepted n → entriesOf first ≡ entriesOf second → first ≡ second
 one-string first second m n b c e f same = sym (accepted-whole first m b e) ∙ ap encode same ∙ accepted-whole second n c f
 
+-- A table that reads is the records of what its statements stand for: their number, the statements, the end.
+pub whole-rows : (table : List ℕ) (n : ℕ) → Bytes table → reading table ≡ A.Accepted n → encode (entriesFor (rowsOf table)) ≡ table
+whole-rows table n b e = ap encode (sym (EntriesFor.stands-for table n e)) ∙ accepted-whole table n b e
+
 -- Nothing of a table is lost in its statements: two tables that read with the same statements are the same bytes.
 pub nothing-lost : (first second : List ℕ) (m n : ℕ) → Bytes first → Bytes second
     → reading first ≡ A.Accepted m → reading second ≡ A.Accepted n → rowsOf first ≡ rowsOf second → first ≡ second
-nothing-lost first second m n b c e f same = one-string first second m n b c e f (EntriesFor.same-entries first second m n e f same)
+nothing-lost first second m n b c e f same =
+    sym (whole-rows first m b e) ∙ ap (λ (rows : List Statement). encode (entriesFor rows)) same ∙ whole-rows second n c f
+
+-- And no table is refused that is as the stored form has it: at most 32 statements of the shape and with the values that `three-elements`
+-- and `sound-values` say, in at most 16,384 bytes, read, and are the statements of what is read (`AllFit`: addresses have 32 bits).
+pub form-reads : (rows : List Statement) → length rows ≤ 32 → ((s : Statement) → In s rows → WellFormed s × SoundStatement s)
+    → AllFit (entriesFor rows) → length (encode (entriesFor rows)) ≤ 16384
+    → (reading (encode (entriesFor rows)) ≡ A.Accepted (length rows)) × (rowsOf (encode (entriesFor rows)) ≡ rows)
+form-reads = FormReads.form-reads
 
 -- A refusal of the reader has a number from 1 to 8 and a place of at most 16,384.
 pub refused-where : (table : List ℕ) (number place : ℕ) → reading table ≡ A.Refused number place
     → (0 < number) × (number ≤ 8) × (place ≤ 16384)
 refused-where = Numbers.refused-where
 
--- "1: table over 16,384 bytes", at 16,384.
+-- 1 is given for a "table over 16,384 bytes", at 16,384.
 pub refused-long : (table : List ℕ) → 16384 < length table → reading table ≡ A.Refused 1 16384
 refused-long = Steps.too-long
 
@@ -119,8 +132,8 @@ pub writer-as-reader : (es : List Entry) (buffer : List ℕ) (w : Writer) (left 
     ↔ (reading (encode es ++ (recordOf (itemOf e) (bytesOf e) ++ rest)) ≡ A.Refused number (w .at))
 writer-as-reader = SameRefusal.writer-as-reader
 
--- "6: .. to the writer also a value of no bytes or over 128", which has no record: it is refused with the number that its kind alone
--- decides there, `dueOf`, and with 6 where that is none.
+-- 6 is given "to the writer also" for "a value of no bytes or over 128", which has no record: it is refused with the number that its kind
+-- alone decides there, `dueOf`, and with 6 where that is none.
 pub writer-no-record : (w : Writer) (bytes : List ℕ) (room : ℕ) → (length bytes ≡ 0) ⊎ (128 < length bytes)
     → writing w I.Value bytes room
     ≡ W.Refused (pick (eqb (dueOf (w .state) (K.Value (length bytes))) 0) 6 (dueOf (w .state) (K.Value (length bytes)))) (w .at)

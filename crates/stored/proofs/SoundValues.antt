@@ -1,14 +1,14 @@
 -- What the lists of a table that reads hold: from every state on, the values and networks still to come are of the sort of the list at hand
 -- and sound by themselves.
-use Prim.Native.Nat.{ℕ, _+_, _≤_, _<_}
-use mathlib.Core.Path.{_≡_, refl, sym, _∙_, ap, subst}
+use Prim.Native.Nat.{ℕ, _+_}
+use mathlib.Core.Path.{_≡_, refl, sym, subst}
 use mathlib.Core.Bool.{Bool, true, false, not, _&&_, _||_}
 use mathlib.Core.List.{List, [], _∷_}
 use mathlib.Core.Logic.{_⊎_, inl, inr, ⊎-elim}
 use native.Mathlib.Omega.{arith}
 use lib.Dec.{eqb, leb, ltb}
 use lib.ListN.{length}
-use borrow.Author.Tests.{eqb-true}
+use borrow.Author.Tests.{eqb-true, not-true}
 use Rattle.stored.specs.Choice.{pick, In}
 use Rattle.stored.specs.Items.{columnPlace, keySort}
 use Rattle.stored.specs.Operators.{rowOf}
@@ -18,7 +18,7 @@ use Rattle.stored.specs.Machine.{isPrincipals, isText, sameSort, soundIn
 use Rattle.stored.specs.Reading.{reading}
 use Rattle.stored.specs.Entries.{Entry, itemOf, bytesOf, entriesOf, admit}
 use Rattle.stored.specs.Entries.Entry.{start, statement, column, condition, network, value, end}
-use Rattle.stored.specs.Tables.{Listed, Element, Condition, Statement, Part, empty, gather, tableOf, rowsOf, MayHold, SoundElement, SoundCondition, SoundStatement}
+use Rattle.stored.specs.Tables.{Listed, Element, Condition, Statement, Part, empty, gather, tableOf, rowsOf, MayHold, IsPrincipal, SoundElement, SoundCondition, SoundStatement}
 use Rattle.stored.specs.Tables.Listed.{text, range}
 use Rattle.stored.specs.declared.items.Column.{Column}
 use Rattle.stored.specs.declared.items.Column.the-variants as C
@@ -34,10 +34,6 @@ use Rattle.stored.proofs.Turns.{refused-else, else-refused, admitted, s
 use Rattle.stored.proofs.Accepting.{Leads, isFresh, start-first, column-fresh, took, starts, read-leads}
 use Rattle.stored.proofs.EntriesFor.{ended-none}
 
--- a principal is `*` alone, or has neither `*` nor `?`
-abbrev Principal : List ℕ → Type 0
-Principal bs = (isStarAlone bs ≡ true) ⊎ (hasWildcard bs ≡ false)
-
 -- what a taken entry says of what it holds
 abbrev Holds : State → Entry → Type 0
 Holds s (start n) = Unit {0}
@@ -45,7 +41,7 @@ Holds s (statement e) = Unit {0}
 Holds s (column c) = Unit {0}
 Holds s (condition o k) = rowOf o .sort ≡ keySort k
 Holds s (network a n) = MayHold (s .sort) (range a n)
-Holds s (value bs) = MayHold (s .sort) (text bs) × (isPrincipals (s .phase) ≡ true → Principal bs)
+Holds s (value bs) = MayHold (s .sort) (text bs) × (isPrincipals (s .phase) ≡ true → IsPrincipal bs)
 Holds s end = Unit {0}
 
 same-sort : (a b : Sort) → sameSort a b ≡ true → a ≡ b
@@ -63,13 +59,13 @@ text-held O.Text bs e h = h
 text-held O.Address bs e h = never (cc)
 
 -- a value with no fault
-faultless : (p : Phase) (sort : Sort) (bs : List ℕ) → valueFault p sort bs ≡ 0 → MayHold sort (text bs) × (isPrincipals p ≡ true → Principal bs)
+faultless : (p : Phase) (sort : Sort) (bs : List ℕ) → valueFault p sort bs ≡ 0 → MayHold sort (text bs) × (isPrincipals p ≡ true → IsPrincipal bs)
 faultless p sort bs e =
     let long = sized p sort bs e in
     let f = by (eqb (length bs) 0 || ltb 128 (length bs)) (inRange bs) (isText sort && (not (hasVariable bs) && soundIn p bs)) e in
     let rest = both-right (isText sort) (not (hasVariable bs) && soundIn p bs) (f .1) in (
       text-held sort bs (both-left (isText sort) (not (hasVariable bs) && soundIn p bs) (f .1))
-          (long .0, long .1, f .0, negated (hasVariable bs) (both-left (not (hasVariable bs)) (soundIn p bs) rest)),
+          (long .0, long .1, f .0, not-true (hasVariable bs) (both-left (not (hasVariable bs)) (soundIn p bs) rest)),
       principal (isPrincipals p) (isStarAlone bs) (hasWildcard bs) (both-right (not (hasVariable bs)) (soundIn p bs) rest),
     )
   where
@@ -78,10 +74,6 @@ faultless p sort bs e =
     by false true true h = (refl, refl)
     by false true false h = absurd (omega arith)
     by false false c h = absurd (omega arith)
-
-    negated : (b : Bool) → not b ≡ true → b ≡ false
-    negated true h = never (cc)
-    negated false h = refl
 
     principal : (a b c : Bool) → (not a || (b || not c)) ≡ true → a ≡ true → (b ≡ true) ⊎ (c ≡ false)
     principal true true c h g = inl refl
@@ -125,7 +117,7 @@ opens-principals C.NotResource e = absurd (omega arith)
 -- what is still to come from a state on holds only what it may
 record Sounded (s : State) (p : Part) : Type 0 where
   listed : (x : Listed) → In x (p .values) → MayHold (s .sort) x
-  principals : isPrincipals (s .phase) ≡ true → (bs : List ℕ) → In (text bs) (p .values) → Principal bs
+  principals : isPrincipals (s .phase) ≡ true → (bs : List ℕ) → In (text bs) (p .values) → IsPrincipal bs
   elements : (e : Element) → In e (p .elements) → SoundElement e
   conditions : (c : Condition) → In c (p .conditions) → SoundCondition c
   rows : (r : Statement) → In r (p .rows) → SoundStatement r
@@ -196,7 +188,7 @@ sounded (value v ∷ es) s last l f =
     let held = holds s (value v) (l .0) (l .1) in
     record {
       listed = λ x i. ⊎-elim (λ (e : x ≡ text v). subst (MayHold (s .sort)) (sym e) (held .0)) (r .listed x) i;
-      principals = λ h bs i. ⊎-elim (λ (e : text bs ≡ text v). let same : v ≡ bs = cc in subst Principal same (held .1 h)) (r .principals h bs) i;
+      principals = λ h bs i. ⊎-elim (λ (e : text bs ≡ text v). let same : v ≡ bs = cc in subst IsPrincipal same (held .1 h)) (r .principals h bs) i;
       elements = r .elements;
       conditions = r .conditions;
       rows = r .rows;

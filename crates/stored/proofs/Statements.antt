@@ -4,13 +4,13 @@ use Prim.Native.Nat.{ℕ, _+_, _≤_, _<_}
 use mathlib.Core.Path.{_≡_, refl, sym, _∙_, ap, subst}
 use mathlib.Core.Bool.{Bool, true, false, _&&_}
 use mathlib.Core.List.{List, [], _∷_}
-use mathlib.Core.Logic.{inl, inr, ⊎-elim}
+use mathlib.Core.Logic.{⊎-elim}
 use native.Mathlib.Omega.{arith}
 use lib.ListN.{length}
 use Rattle.stored.specs.Choice.{In}
 use Rattle.stored.specs.Items.{columnPlace}
 use Rattle.stored.specs.Operators.{rowOf}
-use Rattle.stored.specs.Machine.{freshState, isEnded, isContent, onlyColumn, takesKind, leavesEmpty, columnPhase, placeDue, countedState, openedState, listedState, filledState, endedState, kindOfItem}
+use Rattle.stored.specs.Machine.{isEnded, isContent, onlyColumn, takesKind, leavesEmpty, columnPhase, placeDue, countedState, openedState, listedState, filledState, endedState, kindOfItem}
 use Rattle.stored.specs.Reading.{reading}
 use Rattle.stored.specs.Entries.{Entry, itemOf, bytesOf, entriesOf, admit}
 use Rattle.stored.specs.Entries.Entry.{start, statement, column, condition, network, value, end}

@@ -1,5 +1,5 @@
 -- A table as data, so that the crates above can say what it means: statements with their effect, elements and conditions, and the
--- values and networks that these list.
+-- values and networks that these list; the entries that statements stand for; and what the stored form asks of a statement.
 use Prim.Native.Nat.{ℕ, _+_, _≤_, _<_}
 use mathlib.Core.Path.{_≡_}
 use mathlib.Core.List.{List, [], _∷_}
@@ -92,6 +92,28 @@ tableOf es = gather es .rows
 abbrev pub rowsOf : List ℕ → List Statement
 rowsOf t = tableOf (entriesOf t)
 
+-- the other way round: the entries that lists, elements, conditions and statements stand for, in front of others
+abbrev pub listedFor : List Listed → List Entry → List Entry
+listedFor [] es = es
+listedFor (text bs ∷ l) es = value bs ∷ listedFor l es
+listedFor (range a n ∷ l) es = network a n ∷ listedFor l es
+
+abbrev pub elementsFor : List Element → List Entry → List Entry
+elementsFor [] es = es
+elementsFor (e ∷ l) es = column (e .name) ∷ listedFor (e .values) (elementsFor l es)
+
+abbrev pub conditionsFor : List Condition → List Entry → List Entry
+conditionsFor [] es = es
+conditionsFor (c ∷ l) es = condition (c .operator) (c .key) ∷ listedFor (c .values) (conditionsFor l es)
+
+abbrev pub statementsFor : List Statement → List Entry
+statementsFor [] = end ∷ []
+statementsFor (s ∷ l) = statement (s .effect) ∷ elementsFor (s .elements) (conditionsFor (s .conditions) (statementsFor l))
+
+-- the entries of a table with these statements: their number, the statements, the end
+abbrev pub entriesFor : List Statement → List Entry
+entriesFor rows = start (length rows) ∷ statementsFor rows
+
 -- the columns of elements, one after the other
 abbrev pub placesOf : List Element → List ℕ
 placesOf [] = []
@@ -127,10 +149,14 @@ MayHold S.Text (range a n) = ⊥
 MayHold S.Address (text bs) = ⊥
 MayHold S.Address (range a n) = networkSound a n ≡ true
 
--- an element lists texts, and a principal is `*` alone or has neither `*` nor `?`
+-- a principal is `*` alone, or has neither `*` nor `?`
+abbrev pub IsPrincipal : List ℕ → Type 0
+IsPrincipal bs = (isStarAlone bs ≡ true) ⊎ (hasWildcard bs ≡ false)
+
+-- an element lists texts, and those of column 0 are principals
 pub record SoundElement (e : Element) : Type 0 where
   pub holds : (x : Listed) → In x (e .values) → MayHold S.Text x
-  pub principals : columnPlace (e .name) ≡ 0 → (bs : List ℕ) → In (text bs) (e .values) → (isStarAlone bs ≡ true) ⊎ (hasWildcard bs ≡ false)
+  pub principals : columnPlace (e .name) ≡ 0 → (bs : List ℕ) → In (text bs) (e .values) → IsPrincipal bs
 
 -- the operator and the key of a condition are of one sort, and so is what it lists
 pub record SoundCondition (c : Condition) : Type 0 where
