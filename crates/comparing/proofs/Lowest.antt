@@ -14,15 +14,6 @@ use Rattle.comparing.specs.Compared.{lowest, firstWide}
 use Rattle.comparing.specs.Outcomes.{Wide, NoneWide}
 
 module _ (test : ℕ → Bool) where
-  -- the lowest of n columns is one of them or the one behind them
-  pub lowest-high : (c n : ℕ) → lowest test c n ≤ c + n
-  lowest-high c zero = omega arith
-  lowest-high c (suc n) = by (test c) (lowest-high (suc c) n)
-    where
-      by : (t : Bool) → lowest test (suc c) n ≤ suc c + n → pick t c (lowest test (suc c) n) ≤ c + suc n
-      by true h = omega arith
-      by false h = omega arith
-
   -- the test holds there
   pub lowest-holds : (c n : ℕ) → lowest test c n < c + n → test (lowest test c n) ≡ true
   lowest-holds c zero low = absurd (omega arith)

@@ -1,6 +1,6 @@
 -- A question about two tables is answered by just one of its cases: the definition of what it may answer tries them in order, and each
 -- case of `Outcome` is one way through it. Refusal 15 is none of them, for no gap has a value that is too long.
-use Prim.Native.Nat.{ℕ, _≤_, _<_}
+use Prim.Native.Nat.{ℕ, _<_}
 use mathlib.Core.Path.{_≡_, refl, sym, _∙_, ap, subst}
 use mathlib.Core.Bool.{Bool, true, false, _||_}
 use mathlib.Core.List.{List, _++_}
@@ -14,9 +14,10 @@ use Rattle.stored.specs.Reading.{reading}
 use Rattle.stored.specs.Tables.{Statement}
 use Rattle.stored.specs.declared.reader.ReadAnswer.{ReadAnswer}
 use Rattle.stored.specs.declared.reader.ReadAnswer.the-variants as A
+use Rattle.stored.proofs.Choosing.{never}
 use Rattle.judging.specs.Requests.{Value, columns}
 use Rattle.judging.specs.Judging.{rowsOf}
-use Rattle.comparing.specs.Gaps.{Counted, IsGap}
+use Rattle.comparing.specs.Gaps.{IsGap}
 use Rattle.comparing.specs.Compared.{workspaceWords, valueBytes, mostKinds, firstWide, Uncrowded, product, FromKinds, FromStates, FromWidths, FromTables, Answered, IsCount, Compared, laid, firstLong, shapeOf, keeps, IsShown, IsAnswer, Shown}
 use Rattle.comparing.specs.Outcomes.{NoneWide, Comparable, WithinColumns, Outcome, short, firstTable, secondTable, wide, crowded, manyKinds, answered, orderOf, CountOutcome, orderOfCount, GapAnswer, behind, shows, orderOfAnswer, GapOutcome, orderOfGap}
 use Rattle.comparing.specs.declared.answers.Counting.{Counting}
@@ -205,6 +206,30 @@ module _ (k : ℕ) (buffer : List ℕ) where
       from-outcome TooShort (keeps buffer) (IsAnswer k buffer) (GapAnswer k buffer) a b r (λ first second. from-answer first second r)
           (ltb room workspaceWords || ltb (length buffer) valueBytes) gap-short,
     )
+
+    -- no case is 15 of the comparison itself
+    pub fifteen-never : (a b : List ℕ) (place : ℕ) (values : List ℕ) → Shown room a b k buffer (S.Refused 15 0 place, values) → ⊥
+    fifteen-never a b place values s = by (shown-exactly a b (S.Refused 15 0 place, values) .0 s)
+      where
+        other : (n table at : ℕ) → (S.Refused 15 0 place, values) ≡ keeps buffer n table at → (15 ≡ n) × (0 ≡ table)
+        other n table at e =
+            let same : S.Refused 15 0 place ≡ S.Refused n table at = ap (λ (r : Showing × List ℕ). r .0) e in
+            (cc, cc)
+
+        by-answer : GapAnswer k buffer (rowsOf a) (rowsOf b) (S.Refused 15 0 place, values) → ⊥
+        by-answer (behind n counted high e) = omega (arith, other 13 0 0 e .0)
+        by-answer (shows n counted low request g e) =
+            let same : S.Refused 15 0 place ≡ S.Shown (shapeOf request) = ap (λ (r : Showing × List ℕ). r .0) e in
+            never (cc)
+
+        by : GapOutcome room a b k buffer (S.Refused 15 0 place, values) → ⊥
+        by (short is e) = omega (arith, other 14 0 0 e .0)
+        by (firstTable long n at f e) = omega (arith, other n 1 at e .1)
+        by (secondTable long table n at f e) = omega (arith, other n 2 at e .1)
+        by (wide both c w e) = omega (arith, other 10 0 c e .0)
+        by (crowded both narrow c few e) = omega (arith, other 11 0 c e .0)
+        by (manyKinds both counts passed over e) = omega (arith, other 12 0 0 e .0)
+        by (answered both counts passed within answer) = by-answer answer
 
     abbrev orderInGap : Showing × List ℕ → ℕ
     orderInGap (S.Shown shape, values) = 7

@@ -66,8 +66,7 @@ pub one-case : (room : ℕ) (a b : List ℕ) (r s : Counting) (x : CountOutcome 
     → (r ≡ s) × (orderOfCount x ≡ orderOfCount y)
 one-case = Outcomes.count-outcome-one
 
--- The same of the question for gap k, for every value buffer too: "12, 13", and a refusal leaves the buffer unchanged. No case is 15: a
--- shown value over 512 bytes does not come.
+-- The same of the question for gap k, for every value buffer too: "12, 13", and a refusal leaves the buffer unchanged.
 pub refused-exactly-shown : (k : ℕ) (buffer : List ℕ) (room : ℕ) (a b : List ℕ) (r : Showing × List ℕ)
     → Shown room a b k buffer r ↔ GapOutcome room a b k buffer r
 refused-exactly-shown = Outcomes.shown-exactly
@@ -76,6 +75,11 @@ pub one-case-shown : (k : ℕ) (buffer : List ℕ) (room : ℕ) (a b : List ℕ)
     (x : GapOutcome room a b k buffer r) (y : GapOutcome room a b k buffer s)
     → (r ≡ s) × (orderOfGap x ≡ orderOfGap y)
 one-case-shown = Outcomes.gap-outcome-one
+
+-- 15, "a shown value over 512 bytes", is never given.
+pub fifteen-never : (k : ℕ) (buffer : List ℕ) (room : ℕ) (a b : List ℕ) (place : ℕ) (values : List ℕ)
+    → Shown room a b k buffer (S.Refused 15 0 place, values) → ⊥
+fifteen-never = Outcomes.fifteen-never
 
 -- "For each input a public function's contract leaves one possible answer and one possible content of the memory lent to it": any two
 -- outcomes that `Compared` permits are equal, and any two that `Shown` permits, the value buffer included. (What the workspace holds is an

@@ -1,7 +1,7 @@
 -- A request is what the judge can be given and does not refuse with 9: the judge refuses the lowest faulty column, a column that is not
 -- faulty holds an admitted value, and every admitted value is said by bytes or a number.
 use Prim.Native.Nat.{ℕ, suc, _+_, _^_, _≤_, _<_}
-use mathlib.Core.Path.{_≡_, refl, sym, _∙_, ap, ap₂, subst}
+use mathlib.Core.Path.{_≡_, refl, sym, _∙_, ap₂, subst}
 use mathlib.Core.Bool.{Bool, true, false, not, _&&_, _||_}
 use mathlib.Core.List.{List, [], _∷_}
 use mathlib.Core.Logic.{_↔_}
@@ -14,13 +14,10 @@ use Rattle.stored.specs.Values.{byteInRange, inRange}
 use Rattle.stored.specs.Records.{recordAt}
 use Rattle.stored.specs.Reading.{reading, stepAt}
 use Rattle.stored.specs.Entries.{Bytes}
-use Rattle.stored.specs.declared.reader.ReadAnswer.the-variants as A
 use Rattle.stored.proofs.Choosing.{never, both-left, both-right}
-use Rattle.judging.specs.Requests.{Value, absent, text, number, columns, columnOf, keyValue, requestOf, isFaulty, firstFault}
-use Rattle.judging.specs.Judging.{rowsOf, verdict, judgement}
+use Rattle.judging.specs.Requests.{Value, absent, text, number, columns, keyValue, requestOf, isFaulty, firstFault}
+use Rattle.judging.specs.Judging.{rowsOf}
 use Rattle.judging.specs.Meaning.{someAllows, someDenies}
-use Rattle.judging.specs.declared.request.Present.{Present}
-use Rattle.judging.specs.declared.judge.Judgement.{Judgement}
 use Rattle.judging.specs.declared.judge.Judgement.the-variants as J
 use Rattle.judging.proofs.Promises.{refused-request}
 use Rattle.judging.proofs.Refusing.{table-reads, request-sound}
@@ -170,15 +167,28 @@ said-request r said taken = subst IsRequest (sym (said .is)) admitted
     sound = none-faulty 0 whole refl (not-faulty whole (subst NotRefused (said .is) taken))
 
     admitted : IsRequest whole
-    admitted =
-        (sound-needed (said .principal) (sound .0),
-        (sound-needed (said .action) (sound .1 .0),
-        (sound-needed (said .resource) (sound .1 .1 .0),
-        (sound-key (said .present .vpc) (said .vpc) 3 (omega arith) (sound .1 .1 .1 .0),
-        (sound-key (said .present .prefix) (said .prefix) 4 (omega arith) (sound .1 .1 .1 .1 .0),
-        (sound-key (said .present .vpce) (said .vpce) 5 (omega arith) (sound .1 .1 .1 .1 .1 .0),
-        (sound-key (said .present .referer) (said .referer) 6 (omega arith) (sound .1 .1 .1 .1 .1 .1 .0),
-        (sound-address (said .present .address) (said .address) (said .small), refl))))))))
+    admitted = (
+      sound-needed (said .principal) (sound .0),
+      (
+        sound-needed (said .action) (sound .1 .0),
+        (
+          sound-needed (said .resource) (sound .1 .1 .0),
+          (
+            sound-key (said .present .vpc) (said .vpc) 3 (omega arith) (sound .1 .1 .1 .0),
+            (
+              sound-key (said .present .prefix) (said .prefix) 4 (omega arith) (sound .1 .1 .1 .1 .0),
+              (
+                sound-key (said .present .vpce) (said .vpce) 5 (omega arith) (sound .1 .1 .1 .1 .1 .0),
+                (
+                  sound-key (said .present .referer) (said .referer) 6 (omega arith) (sound .1 .1 .1 .1 .1 .1 .0),
+                  (sound-address (said .present .address) (said .address) (said .small), refl),
+                ),
+              ),
+            ),
+          ),
+        ),
+      ),
+    )
 
 pub requests-all : (r : List Value) → IsRequest r ↔ (Said r × NotRefused r)
 requests-all r = (

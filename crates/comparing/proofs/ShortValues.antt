@@ -26,7 +26,7 @@ use Rattle.comparing.specs.Order.{In}
 use Rattle.comparing.specs.Requests.{AdmitsNeeded, AdmitsOptional, AdmitsAddress, Admitted, Each}
 use Rattle.comparing.specs.Gaps.{footprint, FirstOf}
 use Rattle.comparing.specs.Counts.{Apart, MoreThan}
-use Rattle.comparing.specs.Columns.{isWide, IsString, Few}
+use Rattle.comparing.specs.Columns.{IsString, Few}
 use Rattle.comparing.specs.Compared.{valueRoom, bytesIn, Uncrowded, firstLong}
 use Rattle.comparing.specs.Outcomes.{NoneWide}
 use Rattle.comparing.proofs.Ranks.{Ranged, ranged, in-range, ranged-append}
@@ -165,7 +165,7 @@ module _ (first second : List Statement) (narrow : NoneWide (first ++ second)) (
           nowhere : 7 ≤ column → ⊥
           nowhere high =
               let at : pick (ltb column 3) (AdmitsNeeded (text s)) (pick false (AdmitsOptional (text s)) (AdmitsAddress (text s))) =
-                  subst (λ (t : Bool). pick (ltb column 3) (AdmitsNeeded (text s)) (pick t (AdmitsOptional (text s)) (AdmitsAddress (text s)))) e (f .ok) in
+              subst (λ (t : Bool). pick (ltb column 3) (AdmitsNeeded (text s)) (pick t (AdmitsOptional (text s)) (AdmitsAddress (text s)))) e (f .ok) in
               subst (λ (t : Bool). pick t (AdmitsNeeded (text s)) ⊥) (le-ltb column 3 (omega arith)) at
   first-value-short column (number n) f = omega arith
 

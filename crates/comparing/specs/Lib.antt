@@ -10,7 +10,6 @@ pub mod Columns
 pub mod Compared
 pub mod Outcomes
 pub mod Means
-
 -- Machinery: what the functions of the search promise each other. No promise speaks of it.
 pub mod Kinds
 pub mod Product

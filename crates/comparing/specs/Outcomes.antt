@@ -14,7 +14,7 @@ use Rattle.judging.specs.Requests.{Value, columns}
 use Rattle.judging.specs.Judging.{rowsOf}
 use Rattle.comparing.specs.Gaps.{Counted, IsGap}
 use Rattle.comparing.specs.Columns.{isWide}
-use Rattle.comparing.specs.Compared.{workspaceWords, valueBytes, mostKinds, Crowded, Uncrowded, CountsFrom, product, IsCount, laid, firstLong, shapeOf, keeps}
+use Rattle.comparing.specs.Compared.{workspaceWords, valueBytes, mostKinds, Crowded, Uncrowded, CountsFrom, product, IsCount, laid, shapeOf, keeps}
 use Rattle.comparing.specs.declared.answers.Counting.{Counting}
 use Rattle.comparing.specs.declared.answers.Counting.the-variants as C
 use Rattle.comparing.specs.declared.answers.Showing.{Showing}
@@ -82,6 +82,7 @@ orderOf last (answered t counts p within answer) = last answer
 abbrev pub CountOutcome : ℕ → List ℕ → List ℕ → Counting → Type 0
 CountOutcome room a b r = Outcome (room < workspaceWords) C.Refused IsCount a b r
 
+-- their places
 abbrev pub orderOfCount : {room : ℕ} {a b : List ℕ} {r : Counting} → CountOutcome room a b r → ℕ
 orderOfCount x = orderOf (λ is. 7) x
 
@@ -98,6 +99,7 @@ abbrev pub GapOutcome : ℕ → List ℕ → List ℕ → ℕ → List ℕ → S
 GapOutcome room a b k buffer r =
     Outcome ((room < workspaceWords) ⊎ (length buffer < valueBytes)) (keeps buffer) (GapAnswer k buffer) a b r
 
+-- their places
 abbrev pub orderOfAnswer : {k : ℕ} {buffer : List ℕ} {first second : List Statement} {r : Showing × List ℕ} → GapAnswer k buffer first second r → ℕ
 orderOfAnswer (behind n counted high e) = 6
 orderOfAnswer (shows n counted low request gap e) = 7
