@@ -1,5 +1,5 @@
--- What the number that the judge's entry point returns for a question means: 1 is given exactly for what a table that reads allows, and
--- the number of gaps is 0 exactly where every question with the answer 1 by the first table has it by the second.
+-- What the number that the judge's entry point returns for a question means: each verdict's number is given exactly for what the
+-- statements of a table that reads say, and the number of gaps is 0 exactly where every question with the answer 1 by the first table has it by the second.
 use Prim.Native.Nat.{ℕ, suc, _+_, _*_, _^_, _≤_, _<_}
 use mathlib.Core.Path.{_≡_, refl, sym, _∙_, ap, subst}
 use mathlib.Core.Bool.{Bool, true, false}
@@ -9,18 +9,18 @@ use native.Mathlib.Omega.{arith}
 use lib.Dec.{ltb}
 use lib.ListN.{length}
 use borrow.Author.Tests.{ltb-true, ltb-false}
-use Rattle.stored.specs.Choice.{pick}
+use Rattle.stored.specs.Choice.{pick, some}
 use Rattle.stored.specs.Reading.{reading}
 use Rattle.stored.specs.declared.reader.ReadAnswer.{ReadAnswer}
 use Rattle.stored.specs.declared.reader.ReadAnswer.the-variants as A
 use Rattle.stored.proofs.Choosing.{never, pick-cases}
 use Rattle.judging.specs.Requests.{Value, columns, isFaulty, firstFault, requestOf}
-use Rattle.judging.specs.Meaning.{isAllowed, someAllows, someDenies}
+use Rattle.judging.specs.Meaning.{applies, isAllowed, someAllows, someDenies}
 use Rattle.judging.specs.Judging.{rowsOf, verdict, judgement}
 use Rattle.judging.specs.declared.judge.Judgement.{Judgement}
 use Rattle.judging.specs.declared.judge.Judgement.the-variants as J
 use Rattle.judging.specs.declared.request.Present.{Present}
-use Rattle.judging.proofs.Promises.{refused-first, refused-request, allowed-exactly}
+use Rattle.judging.proofs.Promises.{refused-first, refused-request, allowed-exactly, denied-exactly, not-mentioned-exactly}
 use Rattle.judging.proofs.Refusing.{table-reads, request-sound}
 use Rattle.comparing.specs.Requests.{IsRequest}
 use Rattle.comparing.specs.Compared.{Compared}
@@ -33,7 +33,7 @@ use Rattle.portal.specs.Answers.{Counts}
 use Rattle.portal.specs.Saying.{GapsSay}
 use Rattle.portal.specs.Asked.{Asked, CanBeAsked, requestAsked, judgeReturns}
 use Rattle.portal.proofs.Flags.{flags-low, keys-read}
-use Rattle.portal.proofs.JudgeBack.{judge-allowed}
+use Rattle.portal.proofs.JudgeBack.{judge-allowed, judge-denied, judge-not-mentioned}
 use Rattle.portal.proofs.GapsBack.{gaps-read-back}
 
 -- the lowest faulty column is one of the columns, or behind them
@@ -45,30 +45,57 @@ fault-high column (v ∷ r) = by (isFaulty column v) (fault-high (suc column) r)
     by true h = omega arith
     by false h = omega arith
 
--- what the judge allows: the table reads, and the request has no faulty column
-allowed-sound : (table : List ℕ) (r : List Value) → length r ≡ columns → judgement table r ≡ J.Allowed
+-- what the judge does not refuse: the table reads, and the request has no faulty column
+taken-sound : (table : List ℕ) (r : List Value) → length r ≡ columns → ((n place : ℕ) → judgement table r ≡ J.Refused n place → ⊥)
     → IsTable table × (firstFault 0 r ≡ columns)
-allowed-sound table r eight e = by (reading table) refl (ltb (firstFault 0 r) columns) refl
+taken-sound table r eight taken = by (reading table) refl (ltb (firstFault 0 r) columns) refl
   where
     by : (answer : ReadAnswer) → reading table ≡ answer → (t : Bool) → ltb (firstFault 0 r) columns ≡ t
         → IsTable table × (firstFault 0 r ≡ columns)
-    by (A.Refused n place) reads t f = let no = refused-first table r n place reads in never (cc)
-    by (A.Accepted n) reads true f = let no = refused-request table r n reads (ltb-true (firstFault 0 r) columns f) in never (cc)
+    by (A.Refused n place) reads t f = absurd (taken n place (refused-first table r n place reads))
+    by (A.Accepted n) reads true f =
+        absurd (taken 9 (firstFault 0 r) (refused-request table r n reads (ltb-true (firstFault 0 r) columns f)))
     by (A.Accepted n) reads false f = ((n, reads), omega (arith, ltb-false (firstFault 0 r) columns f, fault-high 0 r))
 
--- The judge returns 1 exactly for a request without fault that the statements of a table that reads allow.
-pub one-exactly : (table : List ℕ) (q : Asked)
-    → (judgeReturns table q ≡ 1) ↔ (IsTable table × (firstFault 0 (requestAsked q) ≡ columns) × (isAllowed (requestAsked q) (rowsOf table) ≡ true))
-one-exactly table q = (to, from)
-  where
-    to : judgeReturns table q ≡ 1 → IsTable table × (firstFault 0 (requestAsked q) ≡ columns) × (isAllowed (requestAsked q) (rowsOf table) ≡ true)
-    to one =
-        let allowed = judge-allowed table (requestAsked q) 1 (sym one) .0 refl in
-        let (reads, sound) = allowed-sound table (requestAsked q) refl allowed in
-        (reads, sound, allowed-exactly table (requestAsked q) (reads .0) (reads .1) sound .0 allowed)
+module _ (table : List ℕ) (q : Asked) where
+  -- the table reads, no column of the request is faulty, and the statements say so
+  abbrev Sound : Type 0 → Type 0
+  Sound Says = IsTable table × (firstFault 0 (requestAsked q) ≡ columns) × Says
 
-    from : IsTable table × (firstFault 0 (requestAsked q) ≡ columns) × (isAllowed (requestAsked q) (rowsOf table) ≡ true) → judgeReturns table q ≡ 1
-    from (reads, sound, allows) = ap judgementCode (allowed-exactly table (requestAsked q) (reads .0) (reads .1) sound .1 allows)
+  -- a verdict's number is returned exactly where the table reads, the request has no fault and the statements say so
+  verdict-exactly : (code : ℕ) (j : Judgement) → ((n place : ℕ) → j ≡ J.Refused n place → ⊥)
+      → (judgeReturns table q ≡ code) ↔ (judgement table (requestAsked q) ≡ j) → (Says : Type 0)
+      → ((n : ℕ) → reading table ≡ A.Accepted n → firstFault 0 (requestAsked q) ≡ columns → (judgement table (requestAsked q) ≡ j) ↔ Says)
+      → (judgeReturns table q ≡ code) ↔ Sound Says
+  verdict-exactly code j other coded Says told = (to, from)
+    where
+      to : judgeReturns table q ≡ code → Sound Says
+      to e =
+          let is = coded .0 e in
+          let (reads, sound) = taken-sound table (requestAsked q) refl (λ n place f. other n place (sym is ∙ f)) in
+          (reads, sound, told (reads .0) (reads .1) sound .0 is)
+
+      from : Sound Says → judgeReturns table q ≡ code
+      from (reads, sound, says) = coded .1 (told (reads .0) (reads .1) sound .1 says)
+
+  -- 1 for what is allowed, 2 for what is denied, 0 for what no statement mentions
+  pub one-exactly : (judgeReturns table q ≡ 1)
+      ↔ (IsTable table × (firstFault 0 (requestAsked q) ≡ columns) × (isAllowed (requestAsked q) (rowsOf table) ≡ true))
+  one-exactly =
+      verdict-exactly 1 J.Allowed (λ n place e. never (cc)) (judge-allowed table (requestAsked q) (judgeReturns table q) refl)
+      (isAllowed (requestAsked q) (rowsOf table) ≡ true) (allowed-exactly table (requestAsked q))
+
+  pub two-exactly : (judgeReturns table q ≡ 2)
+      ↔ (IsTable table × (firstFault 0 (requestAsked q) ≡ columns) × (someDenies (requestAsked q) (rowsOf table) ≡ true))
+  two-exactly =
+      verdict-exactly 2 J.DeniedByRule (λ n place e. never (cc)) (judge-denied table (requestAsked q) (judgeReturns table q) refl)
+      (someDenies (requestAsked q) (rowsOf table) ≡ true) (denied-exactly table (requestAsked q))
+
+  pub nought-exactly : (judgeReturns table q ≡ 0)
+      ↔ (IsTable table × (firstFault 0 (requestAsked q) ≡ columns) × (some (applies (requestAsked q)) (rowsOf table) ≡ false))
+  nought-exactly =
+      verdict-exactly 0 J.NotMentioned (λ n place e. never (cc)) (judge-not-mentioned table (requestAsked q) (judgeReturns table q) refl)
+      (some (applies (requestAsked q)) (rowsOf table) ≡ false) (not-mentioned-exactly table (requestAsked q))
 
 -- a judgement is not refusal 9 at a column
 abbrev Not9 : ℕ → Judgement → Type 0
@@ -101,7 +128,11 @@ asked-request table q can allowed =
       bytes = (can .principal, can .action, can .resource, can .vpc, can .prefix, can .vpce, can .referer);
       small = can .address;
       is = refl;
-    }, sound-taken (requestAsked q) (allowed-sound table (requestAsked q) refl allowed .1))
+    }, sound-taken (requestAsked q) (taken-sound table (requestAsked q) refl (λ n place e. refused n place (sym allowed ∙ e)) .1))
+
+  where
+    refused : (n place : ℕ) → J.Allowed ≡ J.Refused n place → ⊥
+    refused n place e = never (cc)
 
 -- every request can be asked about
 asks-about : (r : List Value) → IsRequest r → (q : Asked) × CanBeAsked q × (requestAsked q ≡ r)
@@ -153,7 +184,7 @@ pub zero-exactly : (first second : List ℕ) (r : ℕ) → Counts first second r
 zero-exactly first second r counts low = by (gaps-read-back first second r counts)
   where
     by : GapsSay first second r → (r ≡ 0) ↔ ((q : Asked) → CanBeAsked q → judgeReturns first q ≡ 1 → judgeReturns second q ≡ 1)
-    by (GapsSay.refused high compared some) = absurd (omega arith)
+    by (GapsSay.refused high compared positive) = absurd (omega arith)
     by (GapsSay.counted below compared) = (to, from)
       where
         to : r ≡ 0 → (q : Asked) → CanBeAsked q → judgeReturns first q ≡ 1 → judgeReturns second q ≡ 1

@@ -6,4 +6,5 @@ pub mod GapsBack
 pub mod ShownStrings
 pub mod AskedBack
 pub mod AskedJudged
+pub mod GapsShown
 pub mod Promises

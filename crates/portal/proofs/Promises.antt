@@ -4,18 +4,19 @@
 -- an equation for `stamenhum_judge`, `Counts` for `stamenhum_gaps` and `Shows` for `stamenhum_gap`.
 use Prim.Native.Nat.{ℕ, _*_, _^_, _≤_, _<_}
 use mathlib.Core.Path.{_≡_, _∙_, sym, ap}
-use mathlib.Core.Bool.{true}
+use mathlib.Core.Bool.{true, false}
 use mathlib.Core.List.{List}
 use mathlib.Core.Logic.{_↔_}
-use lib.ListN.{take, drop}
+use lib.ListN.{length, take, drop}
+use Rattle.stored.specs.Choice.{some}
 use Rattle.stored.specs.Values.{inRange}
 use Rattle.judging.specs.Requests.{Value, columns, firstFault, requestOf}
-use Rattle.judging.specs.Meaning.{isAllowed}
+use Rattle.judging.specs.Meaning.{applies, someDenies, isAllowed}
 use Rattle.judging.specs.Judging.{rowsOf, judgement}
 use Rattle.judging.specs.declared.judge.Judgement.the-variants as J
 use Rattle.comparing.specs.Order.{Earlier}
 use Rattle.comparing.specs.Gaps.{AlikeFrom, IsGap}
-use Rattle.comparing.specs.Compared.{valueRoom, padded, shapeOf, Shown}
+use Rattle.comparing.specs.Compared.{valueBytes, valueRoom, padded, shapeOf, Shown}
 use Rattle.comparing.specs.Outcomes.{IsTable}
 use Rattle.comparing.specs.declared.answers.Shape.{Shape}
 use Rattle.comparing.specs.declared.answers.Showing.{Showing}
@@ -29,6 +30,7 @@ use Rattle.portal.proofs.JudgeBack
 use Rattle.portal.proofs.GapsBack
 use Rattle.portal.proofs.AskedBack
 use Rattle.portal.proofs.AskedJudged
+use Rattle.portal.proofs.GapsShown
 
 -- Every number that `stamenhum_judge` may return for a table and a request says the judgement: 0, 1 and 2 the three verdicts, and any number
 -- from 2 ^ 32 on the refusal whose number and place are read off it. There is no other.
@@ -57,11 +59,21 @@ pub gap-read-back : (first second : List ℕ) (k : ℕ) (before : List ℕ) (r :
 gap-read-back = GapsBack.gap-read-back
 
 -- `stamenhum_judge` returns 1 exactly when the byte string is a table, no column of the request is faulty, and some allow statement of the
--- table applies and no deny statement does.
+-- table applies and no deny statement does; 2 exactly when some deny statement applies, and 0 exactly when no statement does.
 pub door-allowed-exactly : (table : List ℕ) (q : Asked)
     → (judgeReturns table q ≡ 1)
     ↔ (IsTable table × (firstFault 0 (requestAsked q) ≡ columns) × (isAllowed (requestAsked q) (rowsOf table) ≡ true))
 door-allowed-exactly = AskedJudged.one-exactly
+
+pub door-denied-exactly : (table : List ℕ) (q : Asked)
+    → (judgeReturns table q ≡ 2)
+    ↔ (IsTable table × (firstFault 0 (requestAsked q) ≡ columns) × (someDenies (requestAsked q) (rowsOf table) ≡ true))
+door-denied-exactly = AskedJudged.two-exactly
+
+pub door-not-mentioned-exactly : (table : List ℕ) (q : Asked)
+    → (judgeReturns table q ≡ 0)
+    ↔ (IsTable table × (firstFault 0 (requestAsked q) ≡ columns) × (some (applies (requestAsked q)) (rowsOf table) ≡ false))
+door-not-mentioned-exactly = AskedJudged.nought-exactly
 
 -- Where `stamenhum_gaps` gives a number of gaps it is 0 exactly when `stamenhum_judge` returns 1 by the second table for everything that it can
 -- be asked and returns 1 for by the first.
@@ -77,6 +89,12 @@ pub door-gap-shows : (first second : List ℕ) (k : ℕ) (before : List ℕ) (r 
     × (judgeReturns second (askedBy r after) ≡ 1 → ⊥)
     × IsGap (rowsOf first) (rowsOf second) k (requestAsked (askedBy r after))
 door-gap-shows = AskedBack.gap-asked
+
+-- Where `stamenhum_gaps` gives a number of gaps, `stamenhum_gap` shows gap k exactly for every k below it, given a value buffer of 3,584 bytes or more.
+pub door-shown-exactly : (first second : List ℕ) (n : ℕ) → Counts first second n → n < 2 ^ 32
+    → (k : ℕ) (before : List ℕ) → valueBytes ≤ length before → (r : ℕ) (after : List ℕ) → Shows first second k before r after
+    → (2 ^ 63 ≤ r) ↔ (k < n)
+door-shown-exactly = GapsShown.shown-exactly
 
 -- Reading up to the first zero loses nothing: no byte of a shown string is zero, since all lie in 21 to 7E hex, and the bytes behind it in its
 -- 512 all are.
