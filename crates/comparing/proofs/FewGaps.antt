@@ -96,7 +96,7 @@ module _ (first second : List Statement) where
         c .size,
         kinds-length 0 counts are,
         fits (footprints 0) (c .list) (productOf (valuesFor 0 counts are)) (gaps-apart (c .list) (c .gaps .order) (c .gaps .firsts))
-        (λ r i. kinds-complete 0 counts are r (firsts-admitted first second 0 r (c .gaps .firsts r i)))
+            (λ r i. kinds-complete 0 counts are r (firsts-admitted first second 0 r (c .gaps .firsts r i))),
       )
 
 -- so a number of gaps that is answered is at most 16,777,216

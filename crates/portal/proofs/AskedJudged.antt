@@ -114,22 +114,23 @@ sound-taken r sound t (n, reads) c e =
 -- what can be asked and is allowed by some table is a request
 asked-request : (table : List ℕ) (q : Asked) → CanBeAsked q → judgement table (requestAsked q) ≡ J.Allowed → IsRequest (requestAsked q)
 asked-request table q can allowed =
-    requests-all (requestAsked q) .1
-    (record {
-      principal = q .principal;
-      action = q .action;
-      resource = q .resource;
-      present = presentOf (q .present);
-      vpc = q .vpc;
-      prefix = q .prefix;
-      vpce = q .vpce;
-      referer = q .referer;
-      address = q .address;
-      bytes = (can .principal, can .action, can .resource, can .vpc, can .prefix, can .vpce, can .referer);
-      small = can .address;
-      is = refl;
-    }, sound-taken (requestAsked q) (taken-sound table (requestAsked q) refl (λ n place e. refused n place (sym allowed ∙ e)) .1))
-
+    requests-all (requestAsked q) .1 (
+      record {
+        principal = q .principal;
+        action = q .action;
+        resource = q .resource;
+        present = presentOf (q .present);
+        vpc = q .vpc;
+        prefix = q .prefix;
+        vpce = q .vpce;
+        referer = q .referer;
+        address = q .address;
+        bytes = (can .principal, can .action, can .resource, can .vpc, can .prefix, can .vpce, can .referer);
+        small = can .address;
+        is = refl;
+      },
+      sound-taken (requestAsked q) (taken-sound table (requestAsked q) refl (λ n place e. refused n place (sym allowed ∙ e)) .1),
+    )
   where
     refused : (n place : ℕ) → J.Allowed ≡ J.Refused n place → ⊥
     refused n place e = never (cc)

@@ -48,12 +48,12 @@ numbered first second n k before long compared = by (refused-exactly 8192 first 
         below low = (
           getD (counted .list) k [],
           refused-exactly-shown k before 8192 first second
-          (S.Shown (shapeOf (getD (counted .list) k [])), laid 7 (getD (counted .list) k []) ++ drop valueBytes before) .1
-          (answered
-          (record { long = λ s. ⊎-elim (λ few. omega arith) (λ few. omega arith) s; first = both .first; second = both .second })
-          counts passed within
-          (shows m counted (omega (arith, same)) (getD (counted .list) k [])
-          (record { list = counted .list; gaps = counted .gaps; low = omega (arith, same, counted .size); here = refl }) refl)),
+              (S.Shown (shapeOf (getD (counted .list) k [])), laid 7 (getD (counted .list) k []) ++ drop valueBytes before) .1
+              (answered
+              (record { long = λ s. ⊎-elim (λ few. omega arith) (λ few. omega arith) s; first = both .first; second = both .second })
+              counts passed within
+              (shows m counted (omega (arith, same)) (getD (counted .list) k [])
+              (record { list = counted .list; gaps = counted .gaps; low = omega (arith, same, counted .size); here = refl }) refl)),
         )
 
         above : (request : List Value) → IsGap (rowsOf first) (rowsOf second) k request → k < n
