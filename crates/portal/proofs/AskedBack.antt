@@ -1,6 +1,6 @@
 -- The question that a shown gap holds: the number and the value buffer give back the request that is gap k, so the judge returns 1 for it
 -- by the first table and does not by the second.
-use Prim.Native.Nat.{ℕ, _*_, _/_, _%_, _^_, _≤_, _<_}
+use Prim.Native.Nat.{ℕ, _*_, _^_, _≤_, _<_}
 use mathlib.Core.Path.{_≡_, refl, sym, _∙_, ap, ap₂, subst}
 use mathlib.Core.Bool.{Bool, true}
 use mathlib.Core.List.{List, [], _∷_}
@@ -12,7 +12,6 @@ use Rattle.stored.specs.Entries.{Bytes}
 use Rattle.judging.specs.Requests.{Value, absent, number, isPresent, columns, columnOf, keyValue}
 use Rattle.judging.specs.Judging.{rowsOf, judgement}
 use Rattle.judging.specs.declared.request.Present.{Present}
-use Rattle.judging.specs.declared.judge.Judgement.the-variants as J
 use Rattle.comparing.specs.Order.{Earlier}
 use Rattle.comparing.specs.Requests.{AdmitsOptional, AdmitsAddress, IsRequest}
 use Rattle.comparing.specs.Gaps.{AlikeFrom, IsGap}
@@ -32,7 +31,7 @@ use Rattle.portal.specs.Answers.{Shows}
 use Rattle.portal.specs.Asked.{Asked, CanBeAsked, requestAsked, judgeReturns, shownString, askedBy}
 use Rattle.portal.proofs.Fitting.{gives-back}
 use Rattle.portal.proofs.JudgeBack.{judge-allowed}
-use Rattle.portal.proofs.GapsBack.{ShapeBack, shape-back, GapFits, gap-fits}
+use Rattle.portal.proofs.GapsBack.{ShapeBack, shape-back, gap-fits}
 use Rattle.portal.proofs.ShownStrings.{column-ranged, bytes-shown, string-shown}
 
 -- a key that is there as a value is, with its bytes, is the value; and so is an address

@@ -1,7 +1,7 @@
 -- What the number that the judge's entry point returns for a question means: each verdict's number is given exactly for what the
 -- statements of a table that reads say, and the number of gaps is 0 exactly where every question with the answer 1 by the first table has it by the second.
 use Prim.Native.Nat.{ℕ, suc, _+_, _*_, _^_, _≤_, _<_}
-use mathlib.Core.Path.{_≡_, refl, sym, _∙_, ap, subst}
+use mathlib.Core.Path.{_≡_, refl, sym, _∙_, ap}
 use mathlib.Core.Bool.{Bool, true, false}
 use mathlib.Core.List.{List, [], _∷_}
 use mathlib.Core.Logic.{_↔_}
@@ -13,21 +13,19 @@ use Rattle.stored.specs.Choice.{pick, some}
 use Rattle.stored.specs.Reading.{reading}
 use Rattle.stored.specs.declared.reader.ReadAnswer.{ReadAnswer}
 use Rattle.stored.specs.declared.reader.ReadAnswer.the-variants as A
-use Rattle.stored.proofs.Choosing.{never, pick-cases}
+use Rattle.stored.proofs.Choosing.{never}
 use Rattle.judging.specs.Requests.{Value, columns, isFaulty, firstFault, requestOf}
-use Rattle.judging.specs.Meaning.{applies, isAllowed, someAllows, someDenies}
-use Rattle.judging.specs.Judging.{rowsOf, verdict, judgement}
+use Rattle.judging.specs.Meaning.{applies, isAllowed, someDenies}
+use Rattle.judging.specs.Judging.{rowsOf, judgement}
 use Rattle.judging.specs.declared.judge.Judgement.{Judgement}
 use Rattle.judging.specs.declared.judge.Judgement.the-variants as J
 use Rattle.judging.specs.declared.request.Present.{Present}
 use Rattle.judging.proofs.Promises.{refused-first, refused-request, allowed-exactly, denied-exactly, not-mentioned-exactly}
-use Rattle.judging.proofs.Refusing.{table-reads, request-sound}
 use Rattle.comparing.specs.Requests.{IsRequest}
-use Rattle.comparing.specs.Compared.{Compared}
 use Rattle.comparing.specs.Outcomes.{IsTable}
-use Rattle.comparing.specs.Means.{Said, NotRefused}
-use Rattle.comparing.specs.declared.answers.Counting.the-variants as C
+use Rattle.comparing.specs.Means.{Said}
 use Rattle.comparing.proofs.Promises.{requests-all, none-means}
+use Rattle.comparing.proofs.Requests.{sound-taken}
 use Rattle.portal.specs.Codes.{presentOf, flagsOf, judgementCode}
 use Rattle.portal.specs.Answers.{Counts}
 use Rattle.portal.specs.Saying.{GapsSay}
@@ -96,20 +94,6 @@ module _ (table : List ℕ) (q : Asked) where
   nought-exactly =
       verdict-exactly 0 J.NotMentioned (λ n place e. never (cc)) (judge-not-mentioned table (requestAsked q) (judgeReturns table q) refl)
       (some (applies (requestAsked q)) (rowsOf table) ≡ false) (not-mentioned-exactly table (requestAsked q))
-
--- a judgement is not refusal 9 at a column
-abbrev Not9 : ℕ → Judgement → Type 0
-Not9 c j = j ≡ J.Refused 9 c → ⊥
-
--- a request without fault is refused with 9 by no table
-sound-taken : (r : List Value) → firstFault 0 r ≡ columns → NotRefused r
-sound-taken r sound t (n, reads) c e =
-    none (request-sound r (rowsOf t) (firstFault 0 r) refl (omega (arith, sound)) ∙ table-reads t r n reads ∙ e)
-  where
-    none : verdict r (rowsOf t) ≡ J.Refused 9 c → ⊥
-    none =
-        pick-cases (Not9 c) (someDenies r (rowsOf t)) J.DeniedByRule (pick (someAllows r (rowsOf t)) J.Allowed J.NotMentioned) (λ f g. never (cc))
-        (λ f. pick-cases (Not9 c) (someAllows r (rowsOf t)) J.Allowed J.NotMentioned (λ g h. never (cc)) (λ g h. never (cc)))
 
 -- what can be asked and is allowed by some table is a request
 asked-request : (table : List ℕ) (q : Asked) → CanBeAsked q → judgement table (requestAsked q) ≡ J.Allowed → IsRequest (requestAsked q)

@@ -1,14 +1,13 @@
 -- What the numbers that `stamenhum_gaps` and `stamenhum_gap` return say: the answer is read back from each. The cases of the comparison
 -- give no refusal that does not fit its code.
 use Prim.Native.Nat.{ℕ, _+_, _*_, _/_, _%_, _^_, _≤_, _<_}
-use mathlib.Core.Path.{_≡_, refl, sym, _∙_, ap, ap₂, subst}
+use mathlib.Core.Path.{_≡_, refl, sym, _∙_, ap, subst}
 use mathlib.Core.List.{List}
 use native.Mathlib.Omega.{arith}
 use Rattle.stored.specs.Tables.{Statement}
-use Rattle.judging.specs.Requests.{Value, absent, text, number, columnOf}
+use Rattle.judging.specs.Requests.{columnOf}
 use Rattle.judging.specs.Judging.{rowsOf}
-use Rattle.comparing.specs.Requests.{AdmitsAddress}
-use Rattle.comparing.specs.Compared.{addressIn, requestShown, keeps, Compared, Shown}
+use Rattle.comparing.specs.Compared.{requestShown, keeps, Compared, Shown}
 use Rattle.comparing.specs.Outcomes.{Outcome, short, firstTable, secondTable, wide, crowded, manyKinds, answered, GapAnswer, behind, shows}
 use Rattle.comparing.specs.Means.{ShownMeans}
 use Rattle.comparing.specs.declared.answers.Counting.{Counting}
@@ -17,7 +16,8 @@ use Rattle.comparing.specs.declared.answers.Shape.{Shape}
 use Rattle.comparing.specs.declared.answers.Showing.{Showing}
 use Rattle.comparing.specs.declared.answers.Showing.the-variants as S
 use Rattle.comparing.proofs.Promises.{few-gaps, shown-means, refused-exactly, refused-exactly-shown}
-use Rattle.portal.specs.Codes.{presentOf, flagsOf, shapeCode, countingCode, showingCode, placeIn, numberIn, tableIn}
+use Rattle.comparing.proofs.Requests.{address-said}
+use Rattle.portal.specs.Codes.{presentOf, flagsOf, shapeCode, placeIn, numberIn, tableIn}
 use Rattle.portal.specs.Answers.{Counts, Shows}
 use Rattle.portal.specs.Saying.{GapsSay, GapSays}
 use Rattle.portal.proofs.Flags.{flags-low, keys-read}
@@ -79,12 +79,6 @@ gap-fits first second k before r s =
         subst (GapFits before) (sym e) (column-fits 13 0 (omega arith) (omega arith) (omega arith), refl)
     answers r (shows n counted low request gap e) = subst (GapFits before) (sym e) tt
 
--- an admitted address has 32 bits
-address-low : (v : Value) → AdmitsAddress v → addressIn v < 2 ^ 32
-address-low absent ok = omega arith
-address-low (text s) ok = absurd ok
-address-low (number n) ok = ok
-
 -- the code of a shape gives the keys and the address back
 pub record ShapeBack (shape : Shape) (r : ℕ) : Type 0 where
   pub high : 2 ^ 63 ≤ r
@@ -108,7 +102,7 @@ shape-back first second k before r after shape s code =
     small : shape .address < 2 ^ 32
     small =
         subst (λ (n : ℕ). n < 2 ^ 32) (sym (ap (λ (s : Shape). s .address) (means .lengths)))
-        (address-low (columnOf (requestShown shape after) 7) (means .request .1 .1 .1 .1 .1 .1 .1 .0))
+        (address-said (columnOf (requestShown shape after) 7) (means .request .1 .1 .1 .1 .1 .1 .1 .0))
 
     flags : r / 2 ^ 32 ≡ 0x4000000 * 32 + flagsOf (shape .present)
     flags = omega (arith, small)

@@ -1,7 +1,7 @@
 -- Where the number of gaps is given, gap k is shown exactly for k below it: the case that gives the number gives a case of the question
 -- for each k below it, and that question has one answer.
 use Prim.Native.Nat.{ℕ, _^_, _≤_, _<_}
-use mathlib.Core.Path.{_≡_, refl, sym, _∙_, ap, subst}
+use mathlib.Core.Path.{_≡_, refl, _∙_, ap}
 use mathlib.Core.List.{List, [], _++_}
 use mathlib.Core.Logic.{_↔_, ⊎-elim}
 use native.Mathlib.Omega.{arith}
@@ -9,7 +9,7 @@ use lib.ListN.{length, getD, drop}
 use Rattle.stored.proofs.Choosing.{never}
 use Rattle.judging.specs.Requests.{Value}
 use Rattle.judging.specs.Judging.{rowsOf}
-use Rattle.comparing.specs.Gaps.{Counted, IsGap}
+use Rattle.comparing.specs.Gaps.{IsGap}
 use Rattle.comparing.specs.Compared.{valueBytes, Compared, shapeOf, laid, Shown}
 use Rattle.comparing.specs.Outcomes.{short, firstTable, secondTable, wide, crowded, manyKinds, answered, CountOutcome, shows}
 use Rattle.comparing.specs.declared.answers.Counting.the-variants as C

@@ -3,11 +3,10 @@
 use Prim.Native.Nat.{ℕ, zero, suc, _+_, _-_, _*_, _≤_, _<_}
 use mathlib.Core.Path.{_≡_, refl, sym, _∙_, ap}
 use mathlib.Core.Bool.{Bool, true, false}
-use mathlib.Core.List.{List, [], _∷_, _++_, append-assoc}
+use mathlib.Core.List.{List, [], _∷_, _++_}
 use native.Mathlib.Omega.{arith}
-use lib.Dec.{eqb, leb, ltb}
+use lib.Dec.{leb, ltb}
 use lib.ListN.{length, take, drop, replicate, take-append-drop}
-use lib.Seq.{take-at, drop-at, drop-drop}
 use borrow.Author.Tests.{leb-true, ne-eqb}
 use Rattle.stored.specs.Choice.{pick}
 use Rattle.stored.specs.Values.{byteInRange, inRange}
@@ -15,7 +14,7 @@ use Rattle.stored.proofs.Choosing.{both-left, both-right}
 use Rattle.judging.specs.Requests.{Value, absent, text, number, columnOf}
 use Rattle.comparing.specs.Requests.{AdmitsNeeded, AdmitsOptional, AdmitsAddress, Admitted, Each, IsRequest}
 use Rattle.comparing.specs.Compared.{valueBytes, valueRoom, bytesIn, padded, laid}
-use Rattle.comparing.proofs.ShownRequest.{room}
+use Rattle.comparing.proofs.ShownRequest.{stands}
 use Rattle.portal.specs.Asked.{beforeZero, shownString}
 
 -- nothing stands before the first of some zeros
@@ -47,28 +46,6 @@ pub column-ranged : (from : ℕ) (r : List Value) → Each Admitted from r → (
 column-ranged from [] e column = refl
 column-ranged from (v ∷ r) e zero = admitted-ranged from v (e .0)
 column-ranged from (v ∷ r) e (suc column) = column-ranged (suc from) r (e .1) column
-
--- a value stands in its 512 bytes, with zeros behind it
-stands : (column n : ℕ) (r : List Value) (rest : List ℕ) → column < n → n ≤ length r
-    → ((i : ℕ) → length (bytesIn (columnOf r i)) ≤ valueRoom)
-    → take valueRoom (drop (column * valueRoom) (laid n r ++ rest)) ≡ padded (bytesIn (columnOf r column))
-stands column zero r rest low many short = absurd (omega arith)
-stands column (suc n) [] rest low many short = absurd (omega arith)
-stands zero (suc n) (v ∷ r) rest low many short =
-    rw (append-assoc (padded (bytesIn v)) (laid n r) rest)
-    (take-at (padded (bytesIn v)) (laid n r ++ rest) 512 (room (bytesIn v) (short 0)))
-stands (suc column) (suc n) (v ∷ r) rest low many short =
-    rw (append-assoc (padded (bytesIn v)) (laid n r) rest)
-    (ap (take 512) behind ∙ stands column n r rest (omega arith) (omega arith) (λ i. short (suc i)))
-  where
-    on : suc column * 512 ≡ 512 + column * 512
-    on = omega arith
-
-    behind : drop (suc column * 512) (padded (bytesIn v) ++ (laid n r ++ rest)) ≡ drop (column * 512) (laid n r ++ rest)
-    behind =
-        ap (λ (m : ℕ). drop m (padded (bytesIn v) ++ (laid n r ++ rest))) on
-        ∙ sym (drop-drop (column * 512) 512 (padded (bytesIn v) ++ (laid n r ++ rest)))
-        ∙ ap (drop (column * 512)) (drop-at (padded (bytesIn v)) (laid n r ++ rest) 512 (room (bytesIn v) (short 0)))
 
 -- a buffer whose first 3,584 bytes are the values of a request
 module _ (r : List Value) (ok : IsRequest r) (eight : length r ≡ 8)
