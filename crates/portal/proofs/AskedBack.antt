@@ -8,7 +8,6 @@ use native.Mathlib.Omega.{arith}
 use lib.ListN.{length, take, drop, getD}
 use Rattle.stored.specs.Choice.{pick}
 use Rattle.stored.specs.Values.{inRange}
-use Rattle.stored.specs.Entries.{Bytes}
 use Rattle.judging.specs.Requests.{Value, absent, number, isPresent, columns, columnOf, keyValue}
 use Rattle.judging.specs.Judging.{rowsOf, judgement}
 use Rattle.judging.specs.declared.request.Present.{Present}
@@ -28,7 +27,7 @@ use Rattle.comparing.proofs.Unique.{gaps-unique}
 use Rattle.comparing.proofs.GapList.{gaps-once}
 use Rattle.portal.specs.Codes.{presentOf, judgementCode}
 use Rattle.portal.specs.Answers.{Shows}
-use Rattle.portal.specs.Asked.{Asked, CanBeAsked, requestAsked, judgeReturns, shownString, askedBy}
+use Rattle.portal.specs.Asked.{Asked, ByteString, CanBeAsked, requestAsked, judgeReturns, shownString, askedBy}
 use Rattle.portal.proofs.Fitting.{gives-back}
 use Rattle.portal.proofs.JudgeBack.{judge-allowed}
 use Rattle.portal.proofs.GapsBack.{ShapeBack, shape-back, gap-fits}
@@ -96,20 +95,24 @@ module _ (first second : List ℕ) (k : ℕ) (before : List ℕ) (r : ℕ) (afte
   ranged : (column : ℕ) → column < 7 → inRange (shownString after column) ≡ true
   ranged column low = ap inRange (strings column low) ∙ column-ranged 0 (requestShown shape after) (means .request) column
 
-  shown-bytes : (column : ℕ) → column < 7 → Bytes (shownString after column)
-  shown-bytes column low = in-range-bytes (shownString after column) (ranged column low)
+  byte-string : (column : ℕ) → column < 7 → ByteString (shownString after column)
+  byte-string column low =
+      record {
+        bytes = in-range-bytes (shownString after column) (ranged column low);
+        size = omega (arith, ap length (strings column low), means .short column);
+      }
 
   shown-can : CanBeAsked (askedBy r after)
   shown-can =
       record {
-        principal = shown-bytes 0 (omega arith);
-        action = shown-bytes 1 (omega arith);
-        resource = shown-bytes 2 (omega arith);
+        principal = byte-string 0 (omega arith);
+        action = byte-string 1 (omega arith);
+        resource = byte-string 2 (omega arith);
         present = omega (arith, back .low);
-        vpc = shown-bytes 3 (omega arith);
-        prefix = shown-bytes 4 (omega arith);
-        vpce = shown-bytes 5 (omega arith);
-        referer = shown-bytes 6 (omega arith);
+        vpc = byte-string 3 (omega arith);
+        prefix = byte-string 4 (omega arith);
+        vpce = byte-string 5 (omega arith);
+        referer = byte-string 6 (omega arith);
         address = omega arith;
       }
 

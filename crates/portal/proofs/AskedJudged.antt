@@ -1,38 +1,38 @@
 -- What the number that the judge's entry point returns for a question means: each verdict's number is given exactly for what the
 -- statements of a table that reads say, and the number of gaps is 0 exactly where every question with the answer 1 by the first table has it by the second.
-use Prim.Native.Nat.{ℕ, suc, _+_, _*_, _^_, _≤_, _<_}
+use Prim.Native.Nat.{ℕ, suc, _+_, _^_, _≤_, _<_}
 use mathlib.Core.Path.{_≡_, refl, sym, _∙_, ap}
 use mathlib.Core.Bool.{Bool, true, false}
 use mathlib.Core.List.{List, [], _∷_}
 use mathlib.Core.Logic.{_↔_}
 use native.Mathlib.Omega.{arith}
 use lib.Dec.{ltb}
-use lib.ListN.{length}
+use lib.ListN.{length, replicate, length-replicate}
 use borrow.Author.Tests.{ltb-true, ltb-false}
 use Rattle.stored.specs.Choice.{pick, some}
 use Rattle.stored.specs.Reading.{reading}
 use Rattle.stored.specs.declared.reader.ReadAnswer.{ReadAnswer}
 use Rattle.stored.specs.declared.reader.ReadAnswer.the-variants as A
 use Rattle.stored.proofs.Choosing.{never}
-use Rattle.judging.specs.Requests.{Value, columns, isFaulty, firstFault, requestOf}
+use Rattle.judging.specs.Requests.{Value, columns, isFaulty, firstFault}
 use Rattle.judging.specs.Meaning.{applies, isAllowed, someDenies}
 use Rattle.judging.specs.Judging.{rowsOf, judgement}
 use Rattle.judging.specs.declared.judge.Judgement.{Judgement}
 use Rattle.judging.specs.declared.judge.Judgement.the-variants as J
-use Rattle.judging.specs.declared.request.Present.{Present}
 use Rattle.judging.proofs.Promises.{refused-first, refused-request, allowed-exactly, denied-exactly, not-mentioned-exactly}
 use Rattle.comparing.specs.Requests.{IsRequest}
+use Rattle.comparing.specs.Compared.{valueBytes}
 use Rattle.comparing.specs.Outcomes.{IsTable}
-use Rattle.comparing.specs.Means.{Said}
 use Rattle.comparing.proofs.Promises.{requests-all, none-means}
 use Rattle.comparing.proofs.Requests.{sound-taken}
-use Rattle.portal.specs.Codes.{presentOf, flagsOf, judgementCode}
+use Rattle.portal.specs.Codes.{presentOf, judgementCode}
 use Rattle.portal.specs.Answers.{Counts}
 use Rattle.portal.specs.Saying.{GapsSay}
-use Rattle.portal.specs.Asked.{Asked, CanBeAsked, requestAsked, judgeReturns}
-use Rattle.portal.proofs.Flags.{flags-low, keys-read}
+use Rattle.portal.specs.Asked.{Asked, CanBeAsked, requestAsked, judgeReturns, askedBy}
 use Rattle.portal.proofs.JudgeBack.{judge-allowed, judge-denied, judge-not-mentioned}
 use Rattle.portal.proofs.GapsBack.{gaps-read-back}
+use Rattle.portal.proofs.AskedBack.{gap-asked}
+use Rattle.portal.proofs.GapsShown.{gap-there}
 
 -- the lowest faulty column is one of the columns, or behind them
 fault-high : (column : ℕ) (r : List Value) → firstFault column r ≤ column + length r
@@ -109,7 +109,15 @@ asked-request table q can allowed =
         vpce = q .vpce;
         referer = q .referer;
         address = q .address;
-        bytes = (can .principal, can .action, can .resource, can .vpc, can .prefix, can .vpce, can .referer);
+        bytes = (
+          can .principal .bytes,
+          can .action .bytes,
+          can .resource .bytes,
+          can .vpc .bytes,
+          can .prefix .bytes,
+          can .vpce .bytes,
+          can .referer .bytes,
+        );
         small = can .address;
         is = refl;
       },
@@ -118,50 +126,6 @@ asked-request table q can allowed =
   where
     refused : (n place : ℕ) → J.Allowed ≡ J.Refused n place → ⊥
     refused n place e = never (cc)
-
--- every request can be asked about
-asks-about : (r : List Value) → IsRequest r → (q : Asked) × CanBeAsked q × (requestAsked q ≡ r)
-asks-about r ok = (q, can, same)
-  where
-    said : Said r
-    said = requests-all r .0 ok .0
-
-    q : Asked
-    q =
-        record {
-          principal = said .principal;
-          action = said .action;
-          resource = said .resource;
-          present = flagsOf (said .present);
-          vpc = said .vpc;
-          prefix = said .prefix;
-          vpce = said .vpce;
-          referer = said .referer;
-          address = said .address;
-        }
-
-    can : CanBeAsked q
-    can =
-        record {
-          principal = said .bytes .0;
-          action = said .bytes .1;
-          resource = said .bytes .2;
-          present = omega (arith, flags-low (said .present));
-          vpc = said .bytes .3;
-          prefix = said .bytes .4;
-          vpce = said .bytes .5;
-          referer = said .bytes .6;
-          address = said .small;
-        }
-
-    same : requestAsked q ≡ r
-    same =
-        ap (λ (p : Present). requestOf (said .principal) (said .action) (said .resource) p (said .vpc) (said .prefix) (said .vpce) (said .referer) (said .address))
-        (ap presentOf low ∙ keys-read (said .present) 0)
-        ∙ sym (said .is)
-      where
-        low : flagsOf (said .present) ≡ 0 * 32 + flagsOf (said .present)
-        low = omega arith
 
 -- The number of gaps is 0 exactly where all that the judge allows by the first table it allows by the second.
 pub zero-exactly : (first second : List ℕ) (r : ℕ) → Counts first second r → r < 2 ^ 32
@@ -177,11 +141,16 @@ zero-exactly first second r counts low = by (gaps-read-back first second r count
             let allowed = judge-allowed first (requestAsked q) 1 (sym one) .0 refl in
             ap judgementCode (none-means 8192 first second r compared .0 none (requestAsked q) (asked-request first q can allowed) allowed)
 
+        -- else gap 0 could be asked about
         from : ((q : Asked) → CanBeAsked q → judgeReturns first q ≡ 1 → judgeReturns second q ≡ 1) → r ≡ 0
-        from all = none-means 8192 first second r compared .1 allows
+        from all = by-test (ltb 0 r) refl
           where
-            allows : (x : List Value) → IsRequest x → judgement first x ≡ J.Allowed → judgement second x ≡ J.Allowed
-            allows x ok allowed =
-                let (q, can, same) = asks-about x ok in
-                let one = all q can (ap (λ (y : List Value). judgementCode (judgement first y)) same ∙ ap judgementCode allowed) in
-                ap (judgement second) (sym same) ∙ judge-allowed second (requestAsked q) 1 (sym one) .0 refl
+            long : valueBytes ≤ length {A = ℕ} (replicate valueBytes 0)
+            long = omega (arith, length-replicate {A = ℕ} valueBytes 0)
+
+            by-test : (t : Bool) → ltb 0 r ≡ t → r ≡ 0
+            by-test true more =
+                let (code, after, shown, high) = gap-there first second r compared 0 (ltb-true 0 r more) (replicate valueBytes 0) long in
+                let (can, is, not, gap) = gap-asked first second 0 (replicate valueBytes 0) code after shown high in
+                absurd (not (all (askedBy code after) can is))
+            by-test false none = omega (arith, ltb-false 0 r none)

@@ -17,7 +17,7 @@ use Rattle.comparing.specs.declared.answers.Showing.{Showing}
 use Rattle.comparing.specs.declared.answers.Showing.the-variants as S
 use Rattle.comparing.proofs.Promises.{refused-exactly, refused-exactly-shown, one-answer-shown}
 use Rattle.comparing.proofs.Unique.{gaps-unique}
-use Rattle.portal.specs.Codes.{showingCode}
+use Rattle.portal.specs.Codes.{shapeCode, showingCode}
 use Rattle.portal.specs.Answers.{Counts, Shows}
 use Rattle.portal.specs.Saying.{GapsSay}
 use Rattle.portal.proofs.GapsBack.{gaps-read-back}
@@ -60,6 +60,13 @@ numbered first second n k before long compared = by (refused-exactly 8192 first 
         above request g =
             let one = gaps-unique (rowsOf first) (rowsOf second) (g .list) (counted .list) (g .gaps) (counted .gaps) in
             omega (arith, same, counted .size, g .low, ap length one)
+
+-- every gap below the number can be had
+pub gap-there : (first second : List ℕ) (n : ℕ) → Compared 8192 first second (C.Gaps n) → (k : ℕ) → k < n
+    → (before : List ℕ) → valueBytes ≤ length before → (r : ℕ) × (after : List ℕ) × Shows first second k before r after × (2 ^ 63 ≤ r)
+gap-there first second n compared k low before long =
+    let (request, shown) = numbered first second n k before long compared .below low in
+    (shapeCode (shapeOf request), laid 7 request ++ drop valueBytes before, (S.Shown (shapeOf request), shown, refl), omega arith)
 
 -- The number for gap k shows it exactly where k is below the number of gaps, for a buffer of 3,584 bytes or more.
 pub shown-exactly : (first second : List ℕ) (n : ℕ) → Counts first second n → n < 2 ^ 32

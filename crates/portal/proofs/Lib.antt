@@ -5,6 +5,6 @@ pub mod JudgeBack
 pub mod GapsBack
 pub mod ShownStrings
 pub mod AskedBack
-pub mod AskedJudged
 pub mod GapsShown
+pub mod AskedJudged
 pub mod Promises

@@ -59,7 +59,8 @@ pub gap-read-back : (first second : List ℕ) (k : ℕ) (before : List ℕ) (r :
 gap-read-back = GapsBack.gap-read-back
 
 -- `stamenhum_judge` returns 1 exactly when the byte string is a table, no column of the request is faulty, and some allow statement of the
--- table applies and no deny statement does; 2 exactly when some deny statement applies, and 0 exactly when no statement does.
+-- table applies and no deny statement does; of such a table and request it returns 2 exactly when some deny statement applies, and 0 exactly
+-- when no statement does.
 pub door-allowed-exactly : (table : List ℕ) (q : Asked)
     → (judgeReturns table q ≡ 1)
     ↔ (IsTable table × (firstFault 0 (requestAsked q) ≡ columns) × (isAllowed (requestAsked q) (rowsOf table) ≡ true))
@@ -75,8 +76,8 @@ pub door-not-mentioned-exactly : (table : List ℕ) (q : Asked)
     ↔ (IsTable table × (firstFault 0 (requestAsked q) ≡ columns) × (some (applies (requestAsked q)) (rowsOf table) ≡ false))
 door-not-mentioned-exactly = AskedJudged.nought-exactly
 
--- Where `stamenhum_gaps` gives a number of gaps it is 0 exactly when `stamenhum_judge` returns 1 by the second table for everything that it can
--- be asked and returns 1 for by the first.
+-- Where `stamenhum_gaps` gives a number of gaps it is 0 exactly when `stamenhum_judge` returns 1 by the second table for everything that a
+-- program can ask it and that it returns 1 for by the first.
 pub door-none-exactly : (first second : List ℕ) (r : ℕ) → Counts first second r → r < 2 ^ 32
     → (r ≡ 0) ↔ ((q : Asked) → CanBeAsked q → judgeReturns first q ≡ 1 → judgeReturns second q ≡ 1)
 door-none-exactly = AskedJudged.zero-exactly

@@ -3,7 +3,7 @@
 use Prim.Native.Nat.{ℕ, _*_, _/_, _%_, _^_, _<_}
 use mathlib.Core.List.{List, [], _∷_}
 use lib.Dec.{eqb}
-use lib.ListN.{take, drop}
+use lib.ListN.{length, take, drop}
 use Rattle.stored.specs.Choice.{pick}
 use Rattle.stored.specs.Entries.{Bytes}
 use Rattle.judging.specs.Requests.{Value, requestOf}
@@ -23,16 +23,21 @@ pub record Asked : Type 0 where
   pub referer : List ℕ
   pub address : ℕ
 
--- a program can hand it over: the strings are of bytes, and the two numbers have 32 bits
+-- a string that a program can hand over: bytes, as many as 64 bits can say
+pub record ByteString (s : List ℕ) : Type 0 where
+  pub bytes : Bytes s
+  pub size : length s < 2 ^ 64
+
+-- a program can hand it over: seven such strings and two numbers of 32 bits
 pub record CanBeAsked (q : Asked) : Type 0 where
-  pub principal : Bytes (q .principal)
-  pub action : Bytes (q .action)
-  pub resource : Bytes (q .resource)
+  pub principal : ByteString (q .principal)
+  pub action : ByteString (q .action)
+  pub resource : ByteString (q .resource)
   pub present : q .present < 2 ^ 32
-  pub vpc : Bytes (q .vpc)
-  pub prefix : Bytes (q .prefix)
-  pub vpce : Bytes (q .vpce)
-  pub referer : Bytes (q .referer)
+  pub vpc : ByteString (q .vpc)
+  pub prefix : ByteString (q .prefix)
+  pub vpce : ByteString (q .vpce)
+  pub referer : ByteString (q .referer)
   pub address : q .address < 2 ^ 32
 
 -- the request that is asked about
