@@ -10,7 +10,8 @@ use lib.ListN.{length}
 use borrow.Author.Tests.{ltb-true, ltb-false, ne-eqb}
 use Rattle.stored.specs.Choice.{pick}
 use Rattle.stored.specs.Items.{columnPlace, keyCode}
-use Rattle.stored.specs.Entries.{Entry, itemOf, bytesOf, Follows, Accepted}
+use Rattle.stored.specs.Entries.{Entry, itemOf, bytesOf}
+use Rattle.stored.specs.machinery.Following.{Follows, Accepted}
 use Rattle.stored.specs.Machine.{freshState, onlyStart, nextRow, takesKind, kindOfItem}
 use Rattle.stored.specs.Tables.{Listed, Element, Condition, Statement, gather, tableOf}
 use Rattle.stored.specs.declared.items.Column.{Column}
@@ -25,7 +26,7 @@ use Rattle.stored.proofs.Turns.{Turned, admitted, in-turn, turned}
 use Rattle.matching.specs.declared.reading.Reading.{Reading}
 use Rattle.judging.specs.Meaning.{elementReading, operatorReading, conditionColumn}
 use Rattle.columns.specs.Values.{readAs, elementValues, conditionValues, valuesIn, networksOf, conditionNetworks, networksIn}
-use Rattle.columns.specs.Contents.{listedAs, elementContents, conditionContents, contentsIn, texts, networks, contentsFrom}
+use Rattle.columns.specs.machinery.Contents.{listedAs, elementContents, conditionContents, contentsIn, texts, networks, contentsFrom}
 
 -- an element speaks of column 0, 1 or 2
 pub place-low : (name : Column) → columnPlace name < 3

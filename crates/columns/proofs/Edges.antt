@@ -12,12 +12,13 @@ use Rattle.stored.specs.Items.{columnPlace}
 use Rattle.stored.specs.Operators.{rowOf}
 use Rattle.stored.specs.Tables.{Listed, Element, Condition, Statement}
 use Rattle.matching.specs.declared.reading.Reading.{Reading}
-use Rattle.matching.specs.Network.{agree, networkLow, networkHigh}
+use Rattle.matching.specs.Network.{agree}
+use Rattle.matching.specs.machinery.Ranges.{networkLow, networkHigh}
 use Rattle.matching.proofs.Networks.{in-range}
 use Rattle.judging.specs.Requests.{Value, number}
 use Rattle.judging.specs.Meaning.{listedMatches, sense, operatorReading, conditionHolds, conditionColumn, elementIn, conditionIn, holds}
 use Rattle.columns.specs.Values.{networksOf, conditionNetworks, networksIn}
-use Rattle.columns.specs.Edges.{above, nextEdge}
+use Rattle.columns.specs.machinery.Edges.{above, nextEdge}
 use Rattle.columns.proofs.ColumnContents.{place-low}
 
 -- an end above x is above x, and x is below what is taken for none

@@ -12,12 +12,12 @@ use lib.ListN.{length, getD, take, drop, set, length-set, length-take, drop-of-l
 use lib.Seq.{slice, slice-cons, drop-cons, getD-set-same}
 use borrow.Author.Tests.{eq-eqb, ne-eqb, eqb-true}
 use Rattle.stored.specs.Choice.{pick}
-use Rattle.matching.specs.Rows.{wordBit, rowBit, markRow}
+use Rattle.matching.specs.machinery.Rows.{wordBit, rowBit, markRow}
 use Rattle.matching.proofs.Rows.{below-or-not, row-zero}
 use Rattle.states.proofs.BitsOfWords.{bit-or, bit-and, bit-none, bit-power}
 use Rattle.columns.specs.declared.runs.Run.{Run}
-use Rattle.columns.specs.LastPositions.{noPositions, wordMarked, lastPositions, rowsMeet}
-use Rattle.columns.specs.Plan.{statementWord, beganRun, openedRun, seenRun, runWord, runPlan}
+use Rattle.columns.specs.machinery.LastPositions.{noPositions, wordMarked, lastPositions, rowsMeet}
+use Rattle.columns.specs.machinery.Plan.{statementWord, beganRun, openedRun, seenRun, runWord, runPlan}
 
 -- the bits of a word
 

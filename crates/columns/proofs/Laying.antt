@@ -10,11 +10,11 @@ use Rattle.stored.specs.Choice.{pick}
 use Rattle.stored.specs.Tables.{Listed}
 use Rattle.stored.specs.declared.items.Item.{Item}
 use Rattle.stored.specs.declared.items.Item.the-variants as I
-use Rattle.matching.specs.Codes.{codesOf}
+use Rattle.matching.specs.machinery.Codes.{codesOf}
 use Rattle.columns.specs.declared.contents.ListAt.{ListAt}
 use Rattle.columns.specs.Values.{sumOf}
-use Rattle.columns.specs.Contents.{texts}
-use Rattle.columns.specs.Lists.{foundOf, positionsOf}
+use Rattle.columns.specs.machinery.Contents.{texts}
+use Rattle.columns.specs.machinery.Lists.{foundOf, positionsOf}
 use Rattle.columns.proofs.Widths.{codes-sum}
 
 -- a run behind a run

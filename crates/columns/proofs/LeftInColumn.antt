@@ -8,7 +8,8 @@ use native.Mathlib.Omega.{arith}
 use lib.ListN.{length, take, drop}
 use Rattle.stored.specs.Choice.{pick}
 use Rattle.stored.specs.Records.{recordAt}
-use Rattle.stored.specs.Entries.{Entry, entryOf, entriesFrom, entriesOf, Accepted}
+use Rattle.stored.specs.Entries.{Entry, entryOf, entriesFrom, entriesOf}
+use Rattle.stored.specs.machinery.Following.{Accepted}
 use Rattle.stored.specs.Tables.{Listed}
 use Rattle.stored.specs.declared.items.Item.{Item}
 use Rattle.stored.specs.declared.items.Item.the-variants as I
@@ -16,12 +17,12 @@ use Rattle.stored.specs.declared.records.Record.the-variants as R
 use Rattle.stored.proofs.Walking.{body-length}
 use Rattle.matching.specs.declared.reading.Reading.{Reading}
 use Rattle.matching.specs.declared.reading.Reading.the-variants as How
-use Rattle.matching.specs.Codes.{valueCodes, codesOf}
+use Rattle.matching.specs.machinery.Codes.{valueCodes, codesOf}
 use Rattle.judging.specs.Judging.{rowsOf}
 use Rattle.columns.specs.declared.contents.ListAt.{ListAt}
 use Rattle.columns.specs.Values.{valuesIn, sumOf, networksIn}
-use Rattle.columns.specs.Contents.{texts, networks, contentsFrom}
-use Rattle.columns.specs.Lists.{freshList, movedOf, foundOf, positionsOf}
+use Rattle.columns.specs.machinery.Contents.{texts, networks, contentsFrom}
+use Rattle.columns.specs.machinery.Lists.{freshList, movedOf, foundOf, positionsOf}
 use Rattle.columns.proofs.ColumnContents.{walk-contents, texts-in, networks-in}
 use Rattle.columns.proofs.Places.{contents-on, contents-cut, contents-strange, contents-past}
 

@@ -10,7 +10,7 @@ use Rattle.stored.specs.declared.items.Item.{Item}
 use Rattle.stored.specs.declared.records.Record.the-variants as R
 use Rattle.stored.proofs.Walking.{past, goes-on, ends-cut, ends-strange}
 use Rattle.matching.specs.declared.reading.Reading.{Reading}
-use Rattle.columns.specs.Contents.{contentsFrom}
+use Rattle.columns.specs.machinery.Contents.{contentsFrom}
 
 module _ (column : ℕ) (here : Bool) (how : Reading) (t : List ℕ) (at : ℕ) where
   -- a record's entry comes first

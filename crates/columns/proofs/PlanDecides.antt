@@ -15,14 +15,14 @@ use Rattle.stored.specs.Operators.{rowOf}
 use Rattle.stored.specs.Entries.{Entry}
 use Rattle.matching.specs.declared.reading.Reading.{Reading}
 use Rattle.matching.specs.Network.{agree}
-use Rattle.matching.specs.Rows.{rowBit}
+use Rattle.matching.specs.machinery.Rows.{rowBit}
 use Rattle.judging.specs.declared.walk.Walk.{Walk}
 use Rattle.judging.specs.Requests.{number}
 use Rattle.judging.specs.Meaning.{sense, elementReading, operatorReading}
-use Rattle.judging.specs.Walk.{freshWalk, closedOf, doneOf, beganOf, openedOf, mattersOf, seenOf, conditionOf, stepOf, runOf}
+use Rattle.judging.specs.machinery.Walk.{freshWalk, closedOf, doneOf, beganOf, openedOf, mattersOf, seenOf, conditionOf, stepOf, runOf}
 use Rattle.columns.specs.declared.runs.Run.{Run}
-use Rattle.columns.specs.StateWalk.{stateStep, runState}
-use Rattle.columns.specs.Plan.{statementWord, listWord, withWord, planFrom, planOf, inNetwork, freshRun, closesRun, doneRun, beganRun, openedRun, seenRun, runWord, runPlan}
+use Rattle.columns.specs.machinery.StateWalk.{stateStep, runState}
+use Rattle.columns.specs.machinery.Plan.{statementWord, listWord, withWord, planFrom, planOf, inNetwork, freshRun, closesRun, doneRun, beganRun, openedRun, seenRun, runWord, runPlan}
 use Rattle.columns.proofs.PlanNetworks.{network-address, network-bits}
 
 -- a run as a walk within a list of the column

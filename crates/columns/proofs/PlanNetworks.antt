@@ -14,16 +14,17 @@ use borrow.Author.Tests.{le-ltb}
 use Rattle.stored.specs.Choice.{pick}
 use Rattle.stored.specs.Items.{columnPlace, columnNegated, keyCode}
 use Rattle.stored.specs.Operators.{rowOf}
-use Rattle.stored.specs.Entries.{Entry, Accepted}
+use Rattle.stored.specs.Entries.{Entry}
+use Rattle.stored.specs.machinery.Following.{Accepted}
 use Rattle.stored.specs.Tables.{tableOf}
-use Rattle.matching.specs.Network.{networkLow, networkHigh}
+use Rattle.matching.specs.machinery.Ranges.{networkLow, networkHigh}
 use Rattle.matching.specs.declared.reading.Reading.{Reading}
 use Rattle.matching.specs.declared.reading.Reading.the-variants as R
 use Rattle.judging.specs.Meaning.{elementReading, operatorReading}
 use Rattle.columns.specs.Values.{networksIn}
-use Rattle.columns.specs.Contents.{networks, contentsFrom}
-use Rattle.columns.specs.Edges.{above, nextEdge}
-use Rattle.columns.specs.Plan.{listWord, withWord, planFrom, planOf, edgeOf, edgeIn}
+use Rattle.columns.specs.machinery.Contents.{networks, contentsFrom}
+use Rattle.columns.specs.machinery.Edges.{above, nextEdge}
+use Rattle.columns.specs.machinery.Plan.{listWord, withWord, planFrom, planOf, edgeOf, edgeIn}
 use Rattle.columns.proofs.ColumnContents.{walk-contents, networks-in}
 
 -- the address and the bits behind the prefix

@@ -11,7 +11,8 @@ use borrow.Author.Tests.{leb-false}
 use Rattle.stored.specs.Choice.{pick}
 use Rattle.stored.specs.Items.{columnPlace, columnNegated, keyCode, keySort}
 use Rattle.stored.specs.Operators.{rowOf}
-use Rattle.stored.specs.Entries.{Entry, itemOf, bytesOf, Follows, Accepted}
+use Rattle.stored.specs.Entries.{Entry, itemOf, bytesOf}
+use Rattle.stored.specs.machinery.Following.{Follows, Accepted}
 use Rattle.stored.specs.Machine.{freshState, sameSort, columnPhase, placeDue, takesKind, kindOfItem, listedState, turnOf}
 use Rattle.stored.specs.Tables.{gather, tableOf}
 use Rattle.stored.specs.declared.items.Column.{Column}
@@ -30,8 +31,8 @@ use Rattle.matching.specs.declared.reading.Reading.{Reading}
 use Rattle.matching.specs.declared.reading.Reading.the-variants as R
 use Rattle.judging.specs.Meaning.{elementReading, operatorReading}
 use Rattle.columns.specs.Values.{valuesIn, sumOf, networksIn}
-use Rattle.columns.specs.Contents.{texts, networks, contentsFrom}
-use Rattle.columns.specs.Plan.{listWord, valueWord, networkWord, withWord, planFrom, planOf}
+use Rattle.columns.specs.machinery.Contents.{texts, networks, contentsFrom}
+use Rattle.columns.specs.machinery.Plan.{listWord, valueWord, networkWord, withWord, planFrom, planOf}
 use Rattle.columns.proofs.ColumnContents.{walk-contents, texts-in, networks-in, place-low}
 
 -- before the start of a table

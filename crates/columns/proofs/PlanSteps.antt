@@ -20,8 +20,8 @@ use Rattle.stored.specs.declared.records.Record.the-variants as R
 use Rattle.stored.proofs.Walking.{body-length, goes-on, ends-cut, ends-strange, past}
 use Rattle.columns.specs.declared.contents.ListAt.{ListAt}
 use Rattle.columns.specs.declared.runs.Run.{Run}
-use Rattle.columns.specs.Lists.{movedOf, positionsOf}
-use Rattle.columns.specs.Plan.{runWord, runPlan, listWord, valueWord, networkWord, withWord, planFrom, itemWord, wordAlone}
+use Rattle.columns.specs.machinery.Lists.{movedOf, positionsOf}
+use Rattle.columns.specs.machinery.Plan.{runWord, runPlan, listWord, valueWord, networkWord, withWord, planFrom, itemWord, wordAlone}
 
 -- a word that is there
 pub word-alone : (word : ℕ) → (word ≡ 0 → ⊥) → wordAlone word ≡ word ∷ []

@@ -7,14 +7,15 @@ use mathlib.Core.List.{List, _++_}
 use native.Mathlib.Omega.{arith}
 use lib.ListN.{length, take, drop, length-append}
 use lib.Seq.{sets, sets-eq, length-sets, slice, take-at, drop-at, length-take-le}
-use Rattle.stored.specs.Entries.{entriesOf, Accepted}
+use Rattle.stored.specs.Entries.{entriesOf}
+use Rattle.stored.specs.machinery.Following.{Accepted}
 use Rattle.judging.specs.Judging.{rowsOf}
-use Rattle.states.specs.Rows.{printsAt, codesAt}
+use Rattle.states.specs.machinery.Rows.{printsAt, codesAt}
 use Rattle.states.proofs.Parts.{front-kept, sets-front, sets-behind}
-use Rattle.columns.specs.Both.{Narrow, FewNetworks}
+use Rattle.columns.specs.machinery.Both.{Narrow, FewNetworks}
 use Rattle.columns.specs.Values.{valuesIn, sumOf}
-use Rattle.columns.specs.Plan.{planOf, PlansFit, HasPlans, TextPlans, LaysPlans}
-use Rattle.columns.specs.Prints.{printsBy, printsOf, Prepared}
+use Rattle.columns.specs.machinery.Plan.{planOf, PlansFit, HasPlans, TextPlans, LaysPlans}
+use Rattle.columns.specs.machinery.Prints.{printsBy, printsOf, Prepared}
 use Rattle.columns.specs.declared.plan.Plans.{Plans}
 use Rattle.columns.specs.declared.prints.Prints.{Prints}
 use Rattle.columns.proofs.PlanShort.{plan-short, addresses-short}

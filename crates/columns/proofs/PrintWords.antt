@@ -8,25 +8,26 @@ use native.Mathlib.Nat.{mul-le-mul-right, suc-mul, mul-comm}
 use native.Mathlib.Omega.{arith}
 use lib.ListN.{length}
 use lib.Pow.{pow-add, pow-mono, shl-exact}
-use Rattle.stored.specs.Entries.{Entry, entriesOf, Accepted}
+use Rattle.stored.specs.Entries.{Entry, entriesOf}
+use Rattle.stored.specs.machinery.Following.{Accepted}
 use Rattle.stored.specs.Tables.{tableOf}
-use Rattle.matching.specs.Codes.{codesOf}
-use Rattle.matching.specs.Rows.{rowBit, rowOf}
+use Rattle.matching.specs.machinery.Codes.{codesOf}
+use Rattle.matching.specs.machinery.Rows.{rowBit, rowOf}
 use Rattle.judging.specs.Requests.{text, number}
 use Rattle.judging.specs.Meaning.{holds}
-use Rattle.judging.specs.Rows.{rowsWord}
+use Rattle.judging.specs.machinery.Rows.{rowsWord}
 use Rattle.judging.specs.Judging.{rowsOf}
-use Rattle.judging.specs.Walk.{freshWalk, doneOf}
+use Rattle.judging.specs.machinery.Walk.{freshWalk, doneOf}
 use Rattle.judging.proofs.RowSets.{below, joined}
 use Rattle.judging.proofs.Walking.{walk-means}
 use Rattle.columns.specs.declared.plan.Plans.{Plans}
-use Rattle.columns.specs.Both.{BothRead, Narrow}
+use Rattle.columns.specs.machinery.Both.{BothRead, Narrow}
 use Rattle.columns.specs.Values.{valuesIn, sumOf}
-use Rattle.columns.specs.StateWalk.{runState}
-use Rattle.columns.specs.Plan.{planOf, inNetwork, freshRun, doneRun, runPlan, TextPlans}
+use Rattle.columns.specs.machinery.StateWalk.{runState}
+use Rattle.columns.specs.machinery.Plan.{planOf, inNetwork, freshRun, doneRun, runPlan, TextPlans}
 use Rattle.columns.specs.declared.prints.Prints.{Prints}
-use Rattle.columns.specs.LastPositions.{rowsMeet}
-use Rattle.columns.specs.Prints.{IsReached, ownPlan, otherPlan, printsOf}
+use Rattle.columns.specs.machinery.LastPositions.{rowsMeet}
+use Rattle.columns.specs.machinery.Prints.{IsReached, ownPlan, otherPlan, printsOf}
 use Rattle.columns.proofs.LastPositions.{both-alike}
 use Rattle.columns.proofs.PlanDecides.{plan-decides, plan-finds}
 use Rattle.columns.proofs.StateWalk.{state-walk-means, codes-both}

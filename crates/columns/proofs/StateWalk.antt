@@ -9,26 +9,27 @@ use lib.Dec.{eqb}
 use lib.ListN.{length, length-append, length-map}
 use Rattle.stored.specs.Choice.{pick}
 use Rattle.stored.specs.Items.{columnPlace, keyCode}
-use Rattle.stored.specs.Entries.{Entry, Accepted}
+use Rattle.stored.specs.Entries.{Entry}
+use Rattle.stored.specs.machinery.Following.{Accepted}
 use Rattle.stored.specs.Tables.{Listed, Statement, tableOf}
 use Rattle.stored.proofs.Choosing.{never}
 use Rattle.matching.specs.declared.reading.Reading.{Reading}
 use Rattle.matching.specs.declared.reading.Reading.the-variants as R
 use Rattle.matching.specs.Symbols.{symbols, ignoresCase}
 use Rattle.matching.specs.Matches.{valueMatches}
-use Rattle.matching.specs.Codes.{symbolCode, valueCodes, codesOf}
-use Rattle.matching.specs.Rows.{rowBit, rowOf}
+use Rattle.matching.specs.machinery.Codes.{symbolCode, valueCodes, codesOf}
+use Rattle.matching.specs.machinery.Rows.{rowBit, rowOf}
 use Rattle.matching.proofs.States.{symbols-length, codes-append, last-position-decides}
 use Rattle.judging.specs.declared.walk.Walk.{Walk}
 use Rattle.judging.specs.Requests.{text}
 use Rattle.judging.specs.Meaning.{elementReading, operatorReading, holds}
-use Rattle.judging.specs.Rows.{rowsWord}
-use Rattle.judging.specs.Walk.{freshWalk, doneOf, beganOf, mattersOf, seenOf, elementBegun, conditionBegun, stepOf, runOf}
+use Rattle.judging.specs.machinery.Rows.{rowsWord}
+use Rattle.judging.specs.machinery.Walk.{freshWalk, doneOf, beganOf, mattersOf, seenOf, elementBegun, conditionBegun, stepOf, runOf}
 use Rattle.judging.proofs.Walking.{walk-means}
-use Rattle.states.specs.Rows.{mostStates}
+use Rattle.states.specs.machinery.Rows.{mostStates}
 use Rattle.columns.specs.Values.{valuesIn}
-use Rattle.columns.specs.Contents.{texts, contentsFrom}
-use Rattle.columns.specs.StateWalk.{stateStep, runState}
+use Rattle.columns.specs.machinery.Contents.{texts, contentsFrom}
+use Rattle.columns.specs.machinery.StateWalk.{stateStep, runState}
 use Rattle.columns.proofs.ColumnContents.{walk-contents, texts-in}
 use Rattle.columns.proofs.Widths.{values-append}
 

@@ -6,7 +6,7 @@ use native.Mathlib.Omega.{arith}
 use lib.ListN.{length, length-append, length-map}
 use Rattle.stored.specs.Tables.{Statement}
 use Rattle.matching.specs.declared.reading.Reading.{Reading}
-use Rattle.matching.specs.Codes.{symbolCode, valueCodes, codesOf}
+use Rattle.matching.specs.machinery.Codes.{symbolCode, valueCodes, codesOf}
 use Rattle.matching.specs.Symbols.{symbols, ignoresCase}
 use Rattle.matching.proofs.States.{symbols-length}
 use Rattle.columns.specs.Values.{elementValues, conditionValues, valuesIn, sumOf, conditionNetworks, networksIn}

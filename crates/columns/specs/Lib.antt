@@ -1,10 +1,4 @@
--- What two tables have in a column, and what it says of a state or an address.
+-- The values and the networks of a column.
+-- The promises rest on these definitions, and none of these on machinery.
 pub mod Values
-pub mod Both
-pub mod Contents
-pub mod Lists
-pub mod Edges
-pub mod StateWalk
-pub mod Plan
-pub mod LastPositions
-pub mod Prints
+pub mod machinery

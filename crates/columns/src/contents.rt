@@ -17,13 +17,14 @@ ghost use mathlib.Core.List.{[]};
 ghost use Prim.Native.Nat.{_+_, _≤_};
 ghost use lib.ListN.{length, take, drop};
 ghost use lib.Seq.{sets};
-ghost use Rattle.stored.specs.Entries.{entriesOf, Accepted};
-ghost use Rattle.stored.specs.Writing.{HasKind};
-ghost use Rattle.matching.specs.Codes.{valueCodes, codesOf};
+ghost use Rattle.stored.specs.Entries.{entriesOf};
+ghost use Rattle.stored.specs.machinery.Following.{Accepted};
+ghost use Rattle.stored.specs.machinery.Placing.{HasKind};
+ghost use Rattle.matching.specs.machinery.Codes.{valueCodes, codesOf};
 ghost use Rattle.judging.specs.Judging.{rowsOf};
 ghost use Rattle.columns.specs.Values.{valuesIn, sumOf, networksIn};
-ghost use Rattle.columns.specs.Contents.{texts, networks};
-ghost use Rattle.columns.specs.Lists.{listOf, freshList, movedOf, foundOf, positionsOf};
+ghost use Rattle.columns.specs.machinery.Contents.{texts, networks};
+ghost use Rattle.columns.specs.machinery.Lists.{listOf, freshList, movedOf, foundOf, positionsOf};
 
 // The list at hand of a walk: whether it is of the column, and how it is read.
 pub struct ListAt {

@@ -10,12 +10,13 @@ ghost use lib.ListN.{length};
 ghost use lib.Seq.{slice};
 ghost use lib.Dec.{ltb};
 ghost use Rattle.stored.specs.Choice.{pick};
-ghost use Rattle.stored.specs.Entries.{entriesOf, Accepted};
+ghost use Rattle.stored.specs.Entries.{entriesOf};
+ghost use Rattle.stored.specs.machinery.Following.{Accepted};
 ghost use Rattle.judging.specs.Judging.{rowsOf};
-ghost use Rattle.states.specs.Rows.{printsAt};
+ghost use Rattle.states.specs.machinery.Rows.{printsAt};
 ghost use Rattle.columns.specs.Values.{networksIn};
-ghost use Rattle.columns.specs.Plan.{edgeOf, edgeIn, AddressPlans};
-ghost use Rattle.columns.specs.Edges.{above, nextEdge};
+ghost use Rattle.columns.specs.machinery.Plan.{edgeOf, edgeIn, AddressPlans};
+ghost use Rattle.columns.specs.machinery.Edges.{above, nextEdge};
 
 // The end of a network if it lies above an address, else 2 ^ 32.
 fn end_above(end: u64, x: u64) -> u64

@@ -7,8 +7,8 @@ ghost use mathlib.Core.Bool.{true};
 ghost use Prim.Native.Nat.{_≤_};
 ghost use lib.ListN.{length};
 ghost use lib.Seq.{slice};
-ghost use Rattle.matching.specs.Rows.{markRow};
-ghost use Rattle.columns.specs.LastPositions.{wordMarked, lastPositions, rowsMeet};
+ghost use Rattle.matching.specs.machinery.Rows.{markRow};
+ghost use Rattle.columns.specs.machinery.LastPositions.{wordMarked, lastPositions, rowsMeet};
 
 // The words of a row.
 const ROW_WORDS: usize = 8;

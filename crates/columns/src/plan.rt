@@ -21,8 +21,8 @@ ghost use lib.ListN.{length};
 ghost use lib.Seq.{sets};
 ghost use Rattle.stored.specs.Choice.{pick};
 ghost use Rattle.stored.specs.Entries.{entriesOf};
-ghost use Rattle.states.specs.Rows.{printsAt};
-ghost use Rattle.columns.specs.Plan.{listWord, valueWord, networkWord, itemWord, wordAlone, planOf, PlansFit, LaysPlans};
+ghost use Rattle.states.specs.machinery.Rows.{printsAt};
+ghost use Rattle.columns.specs.machinery.Plan.{listWord, valueWord, networkWord, itemWord, wordAlone, planOf, PlansFit, LaysPlans};
 
 // Where the plans of two tables lie: the first's from CODES on, up to where the second's begins, and that one's end.
 pub struct Plans {

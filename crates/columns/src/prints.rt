@@ -11,17 +11,17 @@ ghost use mathlib.Core.Path.{_≡_};
 ghost use mathlib.Core.List.{List, _++_};
 ghost use Prim.Native.Nat.{ℕ, _+_, _*_, _^_, _<_, _≤_};
 ghost use lib.ListN.{length};
-ghost use Rattle.matching.specs.Codes.{codesOf};
-ghost use Rattle.matching.specs.Rows.{rowOf};
+ghost use Rattle.matching.specs.machinery.Codes.{codesOf};
+ghost use Rattle.matching.specs.machinery.Rows.{rowOf};
 ghost use Rattle.judging.specs.Requests.{absent, text, number};
 ghost use Rattle.judging.specs.Meaning.{holds};
-ghost use Rattle.judging.specs.Rows.{rowsWord};
+ghost use Rattle.judging.specs.machinery.Rows.{rowsWord};
 ghost use Rattle.judging.specs.Judging.{rowsOf};
-ghost use Rattle.states.specs.Rows.{printsAt};
+ghost use Rattle.states.specs.machinery.Rows.{printsAt};
 ghost use Rattle.columns.specs.Values.{valuesIn};
-ghost use Rattle.columns.specs.Plan.{AddressPlans};
-ghost use Rattle.columns.specs.Prints.{IsReached, printsOf, Prepared};
-ghost use Rattle.columns.specs.Both.{BothRead, Narrow};
+ghost use Rattle.columns.specs.machinery.Plan.{AddressPlans};
+ghost use Rattle.columns.specs.machinery.Prints.{IsReached, printsOf, Prepared};
+ghost use Rattle.columns.specs.machinery.Both.{BothRead, Narrow};
 
 // What is worked out once for all states of a column of strings: where the plans lie, the last positions of their values, and the rows of
 // each table that hold for a state that has none of these.

@@ -6,8 +6,8 @@ ghost use lib.Dec.{eqb};
 ghost use lib.ListN.{length};
 ghost use lib.Seq.{slice};
 ghost use Rattle.stored.specs.Choice.{pick};
-ghost use Rattle.matching.specs.Rows.{rowBit};
-ghost use Rattle.columns.specs.Plan.{statementWord, inNetwork, freshRun, closesRun, doneRun, beganRun, openedRun, seenRun, runWord, runPlan};
+ghost use Rattle.matching.specs.machinery.Rows.{rowBit};
+ghost use Rattle.columns.specs.machinery.Plan.{statementWord, inNetwork, freshRun, closesRun, doneRun, beganRun, openedRun, seenRun, runWord, runPlan};
 
 // The words of a plan: a statement begins, a list of the column opens, a negated one does, and from FIRST_VALUE on the last position of a
 // value.

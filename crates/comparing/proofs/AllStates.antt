@@ -10,13 +10,13 @@ use lib.ListN.{length}
 use Rattle.stored.proofs.Choosing.{never}
 use Rattle.matching.specs.declared.reading.Reading.{Reading}
 use Rattle.matching.specs.Matches.{isEmpty, prefixMatches}
-use Rattle.matching.specs.Codes.{codesOf}
+use Rattle.matching.specs.machinery.Codes.{codesOf}
 use Rattle.matching.specs.State.{stateOf}
-use Rattle.matching.specs.Rows.{stepRow, rowOf}
+use Rattle.matching.specs.machinery.Rows.{stepRow, rowOf}
 use Rattle.matching.proofs.States.{row-empty, row-step}
 use Rattle.matching.proofs.Columns.{same-state, same-row}
-use Rattle.states.specs.Rows.{mostStates, rowAt}
-use Rattle.states.specs.Search.{Partial, Explored, Exceeded, stringOf}
+use Rattle.states.specs.machinery.Rows.{mostStates, rowAt}
+use Rattle.states.specs.machinery.Search.{Partial, Explored, Exceeded, stringOf}
 use Rattle.comparing.specs.Order.{In}
 use Rattle.comparing.specs.Counts.{Apart}
 use Rattle.comparing.specs.Columns.{IsString, States, Few, TooMany}

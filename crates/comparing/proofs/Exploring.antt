@@ -12,11 +12,11 @@ use lib.ListN.{length}
 use borrow.Author.Tests.{eqb-false, ne-eqb}
 use Rattle.stored.specs.Choice.{pick}
 use Rattle.stored.specs.Values.{inRange}
-use Rattle.matching.specs.Rows.{stepRow, rowOf, forward, rowBackward}
+use Rattle.matching.specs.machinery.Rows.{stepRow, rowOf, forward, rowBackward}
 use Rattle.matching.proofs.States.{backward, row-empty, row-step}
 use Rattle.judging.specs.Requests.{text}
-use Rattle.states.specs.Rows.{rowAt, keyAt, IsByte}
-use Rattle.states.specs.Search.{Partial, Explored, chain, stringOf}
+use Rattle.states.specs.machinery.Rows.{rowAt, keyAt, IsByte}
+use Rattle.states.specs.machinery.Search.{Partial, Explored, chain, stringOf}
 use Rattle.comparing.specs.Order.{Before}
 use Rattle.comparing.proofs.Ranks.{Ranged, ranged, in-range, ranged-forward, ranged-backward, length-forward, rank, before-rank, rank-before}
 

@@ -16,7 +16,7 @@ use Rattle.comparing.specs.Requests.{Admitted, Each}
 use Rattle.comparing.specs.Gaps.{footprint, AlikeFrom, FirstOf, Counted}
 use Rattle.comparing.specs.Counts.{Apart}
 use Rattle.comparing.specs.Compared.{mostKinds, CountsFrom, product, Compared}
-use Rattle.comparing.specs.Product.{inFront, productOf}
+use Rattle.comparing.specs.machinery.Product.{inFront, productOf}
 use Rattle.comparing.specs.Outcomes.{short, firstTable, secondTable, wide, crowded, manyKinds, answered, CountOutcome}
 use Rattle.comparing.specs.declared.answers.Counting.the-variants as C
 use Rattle.comparing.proofs.Order.{earlier-asym}

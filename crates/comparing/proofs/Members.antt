@@ -8,7 +8,7 @@ use native.Mathlib.Nat.{not-suc-le-zero, le-of-suc-le-suc}
 use lib.ListN.{length, getD}
 use Rattle.stored.specs.Choice.{pick, some}
 use Rattle.comparing.specs.Order.{In, Ascending}
-use Rattle.comparing.specs.Product.{keep}
+use Rattle.comparing.specs.machinery.Product.{keep}
 
 module _ {A : Type 0} where
   -- joined lists

@@ -16,7 +16,7 @@ use Rattle.comparing.specs.Gaps.{footprint, AlikeFrom, FirstOf, Gap, Gap
 use Rattle.comparing.specs.Counts.{Apart}
 use Rattle.comparing.specs.Columns.{Footprints}
 use Rattle.comparing.specs.Compared.{CountsFrom}
-use Rattle.comparing.specs.Product.{Firsts, AllFirsts, inFront, productOf, onlyFirst, gapsAmong}
+use Rattle.comparing.specs.machinery.Product.{Firsts, AllFirsts, inFront, productOf, onlyFirst, gapsAmong}
 use Rattle.comparing.proofs.Order.{before-irrefl}
 use Rattle.comparing.proofs.Unique.{first-unique}
 use Rattle.comparing.proofs.Members.{in-joined, in-left, in-right, ascending-joined, in-kept, kept-in, ascending-kept, in-mapped, mapped-in, ascending-mapped}

@@ -11,9 +11,9 @@ use lib.ListN.{length, length-append}
 use borrow.Author.Tests.{leb-true, le-leb}
 use Rattle.stored.specs.Values.{byteInRange, inRange}
 use Rattle.stored.proofs.Choosing.{both-left, both-right}
-use Rattle.matching.specs.Rows.{forward}
+use Rattle.matching.specs.machinery.Rows.{forward}
 use Rattle.judging.specs.Requests.{text}
-use Rattle.states.specs.Rows.{IsByte}
+use Rattle.states.specs.machinery.Rows.{IsByte}
 use Rattle.comparing.specs.Order.{Smaller, Before}
 use Rattle.comparing.proofs.Order.{Compares, before-total}
 

@@ -6,12 +6,12 @@ use mathlib.Core.Bool.{true}
 use mathlib.Core.List.{List}
 use lib.ListN.{length}
 use Rattle.stored.specs.Values.{inRange}
-use Rattle.matching.specs.Codes.{codesOf}
-use Rattle.matching.specs.Rows.{rowOf}
+use Rattle.matching.specs.machinery.Codes.{codesOf}
+use Rattle.matching.specs.machinery.Rows.{rowOf}
 use Rattle.matching.specs.declared.reading.Reading.{Reading}
 use Rattle.judging.specs.Requests.{text}
-use Rattle.states.specs.Rows.{mostStates, rowAt}
-use Rattle.states.specs.Search.{Explored, stringOf}
+use Rattle.states.specs.machinery.Rows.{mostStates, rowAt}
+use Rattle.states.specs.machinery.Search.{Explored, stringOf}
 use Rattle.comparing.specs.Order.{Before}
 use Rattle.comparing.specs.Columns.{States}
 use Rattle.comparing.proofs.AllStates

@@ -14,8 +14,8 @@ use borrow.Author.Tests.{lt-ltb, le-ltb, ltb-true, ltb-false}
 use Rattle.stored.specs.Choice.{pick}
 use Rattle.stored.specs.Values.{inRange}
 use Rattle.stored.specs.Tables.{Statement}
-use Rattle.matching.specs.Codes.{codesOf}
-use Rattle.matching.specs.Rows.{positions, stepRow, rowOf}
+use Rattle.matching.specs.machinery.Codes.{codesOf}
+use Rattle.matching.specs.machinery.Rows.{positions, stepRow, rowOf}
 use Rattle.matching.specs.State.{stateOf}
 use Rattle.matching.specs.declared.reading.Reading.{Reading}
 use Rattle.matching.proofs.States.{row-step}

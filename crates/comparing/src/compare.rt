@@ -26,10 +26,10 @@ ghost use lib.Dec.{ltb};
 ghost use lib.ListN.{length};
 ghost use Rattle.stored.specs.Reading.{reading};
 ghost use Rattle.judging.specs.Judging.{rowsOf};
-ghost use Rattle.columns.specs.Both.{BothRead};
+ghost use Rattle.columns.specs.machinery.Both.{BothRead};
 ghost use Rattle.comparing.specs.Columns.{isWide};
 ghost use Rattle.comparing.specs.Compared.{workspaceWords, valueBytes, firstWide, FromWidths, FromTables, IsCount, IsAnswer, keeps, Compared, Shown, cleared};
-ghost use Rattle.comparing.specs.Product.{SidesOf};
+ghost use Rattle.comparing.specs.machinery.Product.{SidesOf};
 
 // Two numbers have a sum above a limit.
 fn is_over(limit: usize, a: usize, b: usize) -> bool

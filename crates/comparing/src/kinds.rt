@@ -6,10 +6,10 @@ ghost use mathlib.Core.Path.{_≡_};
 ghost use mathlib.Core.List.{map};
 ghost use Prim.Native.Nat.{_+_, _-_, _*_, _%_, _^_, _≤_, _<_};
 ghost use lib.ListN.{length};
-ghost use Rattle.judging.specs.Rows.{bitOf};
-ghost use Rattle.states.specs.Rows.{printsAt};
+ghost use Rattle.judging.specs.machinery.Rows.{bitOf};
+ghost use Rattle.states.specs.machinery.Rows.{printsAt};
 ghost use Rattle.comparing.specs.Compared.{product, mostKinds};
-ghost use Rattle.comparing.specs.Kinds.{allowedRows, isGapRows, countOf, stepOf, printsBetween, printsIn, Ascending, Bounded, printsAlong, meetAll, MeetsAhead, KindsAhead, isSettled};
+ghost use Rattle.comparing.specs.machinery.Kinds.{allowedRows, isGapRows, countOf, stepOf, printsBetween, printsIn, Ascending, Bounded, printsAlong, meetAll, MeetsAhead, KindsAhead, isSettled};
 
 // The number of rows of the first table, its allow rows, and the second table's allow rows.
 pub struct Sides {

@@ -24,15 +24,15 @@ ghost use Prim.Native.Nat.{ℕ, _≤_, _<_};
 ghost use lib.ListN.{length, drop, replicate};
 ghost use Rattle.judging.specs.Requests.{Value, text};
 ghost use Rattle.judging.specs.Judging.{rowsOf};
-ghost use Rattle.states.specs.Rows.{printsAt};
+ghost use Rattle.states.specs.machinery.Rows.{printsAt};
 ghost use Rattle.columns.specs.Values.{valuesIn};
-ghost use Rattle.columns.specs.Plan.{TextPlans, AddressPlans};
-ghost use Rattle.columns.specs.Prints.{Prepared};
-ghost use Rattle.columns.specs.Both.{BothRead, Narrow, FewNetworks};
+ghost use Rattle.columns.specs.machinery.Plan.{TextPlans, AddressPlans};
+ghost use Rattle.columns.specs.machinery.Prints.{Prepared};
+ghost use Rattle.columns.specs.machinery.Both.{BothRead, Narrow, FewNetworks};
 ghost use Rattle.comparing.specs.Columns.{Few};
 ghost use Rattle.comparing.specs.Compared.{valueBytes, Uncrowded};
-ghost use Rattle.comparing.specs.Survey.{HasStates};
-ghost use Rattle.comparing.specs.ShownValues.{FirstWith, StartsAt, FoundState, LaidValue, Lays, LaysString, ShowsAddress, RequestWith, LaysGap};
+ghost use Rattle.comparing.specs.machinery.Survey.{HasStates};
+ghost use Rattle.comparing.specs.machinery.ShownValues.{FirstWith, StartsAt, FoundState, LaidValue, Lays, LaysString, ShowsAddress, RequestWith, LaysGap};
 
 // What is shown of a column of strings: whether it is there, and its length.
 pub struct ShownText {

@@ -25,15 +25,16 @@ ghost use Prim.Native.Nat.{_+_, _-_, _*_, _≤_, _<_, min};
 ghost use lib.Dec.{eqb, ltb};
 ghost use lib.ListN.{length};
 ghost use Rattle.stored.specs.Choice.{pick, some};
-ghost use Rattle.stored.specs.Entries.{entriesOf, Accepted};
+ghost use Rattle.stored.specs.Entries.{entriesOf};
+ghost use Rattle.stored.specs.machinery.Following.{Accepted};
 ghost use Rattle.judging.specs.Judging.{rowsOf};
-ghost use Rattle.states.specs.Rows.{printsAt};
+ghost use Rattle.states.specs.machinery.Rows.{printsAt};
 ghost use Rattle.columns.specs.Values.{valuesIn, sumOf};
-ghost use Rattle.columns.specs.Plan.{TextPlans, AddressPlans};
-ghost use Rattle.columns.specs.Prints.{Prepared};
-ghost use Rattle.columns.specs.Both.{BothRead, Narrow, FewNetworks};
+ghost use Rattle.columns.specs.machinery.Plan.{TextPlans, AddressPlans};
+ghost use Rattle.columns.specs.machinery.Prints.{Prepared};
+ghost use Rattle.columns.specs.machinery.Both.{BothRead, Narrow, FewNetworks};
 ghost use Rattle.comparing.specs.Compared.{mostKinds};
-ghost use Rattle.comparing.specs.Survey.{HasRoom, printsBetween, Added, HasStates, RowsAdded, Gathered, FoundStates, SurveyedColumn, Surveyable, Surveyed};
+ghost use Rattle.comparing.specs.machinery.Survey.{HasRoom, printsBetween, Added, HasStates, RowsAdded, Gathered, FoundStates, SurveyedColumn, Surveyable, Surveyed};
 
 // What surveying a column finds: more than 512 states, or where its footprints end.
 pub enum Column {

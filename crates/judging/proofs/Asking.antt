@@ -13,7 +13,8 @@ use Rattle.stored.specs.declared.items.Key.{Key}
 use Rattle.stored.specs.declared.items.Key.the-variants as K
 use Rattle.matching.specs.Network.{agree}
 use Rattle.matching.specs.declared.reading.Reading.{Reading}
-use Rattle.judging.specs.Requests.{Value, absent, number, isPresent, columnOf, keyValue, requestOf, keyPresent}
+use Rattle.judging.specs.Requests.{Value, absent, number, isPresent, columnOf, keyValue, requestOf}
+use Rattle.judging.specs.machinery.Presence.{keyPresent}
 use Rattle.judging.specs.Meaning.{listedMatches}
 use Rattle.judging.specs.declared.request.Present.{Present}
 

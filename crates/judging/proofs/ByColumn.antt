@@ -14,8 +14,8 @@ use Rattle.stored.specs.declared.items.Key.{Key}
 use Rattle.stored.specs.declared.items.Key.the-variants as K
 use Rattle.judging.specs.Requests.{Value, columns, columnOf}
 use Rattle.judging.specs.Meaning.{elementHolds, conditionHolds, conditionColumn, applies, elementIn, conditionIn, holds, isAllow}
-use Rattle.judging.specs.Rows.{rowsWord}
-use Rattle.judging.specs.Walk.{gathered}
+use Rattle.judging.specs.machinery.Rows.{rowsWord}
+use Rattle.judging.specs.machinery.Walk.{gathered}
 use Rattle.judging.proofs.RowSets.{same}
 
 -- a test passes in every column

@@ -6,7 +6,7 @@ use mathlib.Core.List.{List}
 use lib.Dec.{eqb}
 use Rattle.stored.specs.Choice.{pick}
 use Rattle.judging.specs.Requests.{text, number, isPresent}
-use Rattle.judging.specs.Walk.{valueIn}
+use Rattle.judging.specs.machinery.Walk.{valueIn}
 
 pub present-in : (column : ℕ) (here : Bool) (s : List ℕ) (address : ℕ) → isPresent (valueIn column here s address) ≡ here
 present-in column true s address = either (eqb column 7)

@@ -3,7 +3,7 @@ use Prim.Native.Nat.{ℕ}
 use mathlib.Core.Path.{_≡_, refl}
 use mathlib.Core.List.{List}
 use Rattle.stored.specs.Records.{recordAt}
-use Rattle.stored.specs.Writing.{HasKind}
+use Rattle.stored.specs.machinery.Placing.{HasKind}
 use Rattle.stored.specs.Entries.{entryOf, itemOf}
 use Rattle.stored.specs.declared.items.Item.{Item}
 use Rattle.stored.specs.declared.items.Item.the-variants as I

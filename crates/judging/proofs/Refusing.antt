@@ -8,8 +8,9 @@ use Rattle.stored.specs.Tables.{Statement}
 use Rattle.stored.specs.declared.reader.ReadAnswer.the-variants as A
 use Rattle.judging.specs.Requests.{Value, firstFault, columns}
 use Rattle.judging.specs.Meaning.{applies, isAllow}
-use Rattle.judging.specs.Rows.{rowsWord}
-use Rattle.judging.specs.Judging.{rowsOf, verdict, verdictOfRows, judged, judgement}
+use Rattle.judging.specs.machinery.Rows.{rowsWord}
+use Rattle.judging.specs.Judging.{rowsOf, verdict, judged, judgement}
+use Rattle.judging.specs.machinery.Verdict.{verdictOfRows}
 use Rattle.judging.specs.declared.judge.Judgement.the-variants as J
 use Rattle.judging.proofs.RowSets.{verdict-rows}
 

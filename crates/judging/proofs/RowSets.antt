@@ -15,8 +15,9 @@ use Rattle.stored.specs.Choice.{pick, some}
 use Rattle.stored.specs.Tables.{Statement}
 use Rattle.judging.specs.Requests.{Value}
 use Rattle.judging.specs.Meaning.{applies, isAllow, someAllows, someDenies}
-use Rattle.judging.specs.Rows.{bitOf, rowsWord}
-use Rattle.judging.specs.Judging.{verdict, verdictOfRows}
+use Rattle.judging.specs.machinery.Rows.{bitOf, rowsWord}
+use Rattle.judging.specs.Judging.{verdict}
+use Rattle.judging.specs.machinery.Verdict.{verdictOfRows}
 use Rattle.judging.specs.declared.judge.Judgement.the-variants as J
 
 -- words of one row more

@@ -21,8 +21,8 @@ use Rattle.stored.specs.declared.records.Record.the-variants as R
 use Rattle.stored.proofs.Walking.{goes-on, ends-cut, ends-strange, past}
 use Rattle.judging.specs.Requests.{Value, isPresent, columnOf}
 use Rattle.judging.specs.Meaning.{listedMatches, sense, elementReading, operatorReading, holds, applies}
-use Rattle.judging.specs.Rows.{bitOf, rowsWord}
-use Rattle.judging.specs.Walk.{freshWalk, closedOf, doneOf, beganOf, mattersOf, seenOf, elementBegun, conditionBegun, countsOf, stepOf, runOf, gathered, columnBehind, stepIn, runIn, elementAsked, conditionAsked, gatheredIn, everyColumn}
+use Rattle.judging.specs.machinery.Rows.{bitOf, rowsWord}
+use Rattle.judging.specs.machinery.Walk.{freshWalk, closedOf, doneOf, beganOf, mattersOf, seenOf, elementBegun, conditionBegun, countsOf, stepOf, runOf, gathered, columnBehind, stepIn, runIn, elementAsked, conditionAsked, gatheredIn, everyColumn}
 use Rattle.judging.specs.declared.walk.Walk.{Walk}
 
 -- the loop: a record is one step, and a cut or strange record, and the end of the table, end the walk

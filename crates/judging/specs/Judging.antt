@@ -1,8 +1,7 @@
 -- The judge's answer (document 01, "What matches what" and "Order"): the table's refusal, then 9 by column, then the verdict.
 use Prim.Native.Nat.{ℕ}
 use mathlib.Core.List.{List}
-use lib.Bits.{bitAnd}
-use lib.Dec.{eqb, ltb}
+use lib.Dec.{ltb}
 use Rattle.stored.specs.Choice.{pick}
 use Rattle.stored.specs.Reading.{reading}
 use Rattle.stored.specs.Tables.{Statement}
@@ -30,7 +29,3 @@ judgedAs (A.Refused n place) request rows = J.Refused n place
 -- the table first, then the request
 unfoldable pub judgement : List ℕ → List Value → Judgement
 judgement t request = judgedAs (reading t) request (rowsOf t)
-
--- the verdict by sets of rows: all that apply allow, and there are some; none applies; else some deny applies
-abbrev pub verdictOfRows : ℕ → ℕ → Judgement
-verdictOfRows rows allow = pick (eqb (bitAnd rows allow) rows) (pick (eqb rows 0) J.NotMentioned J.Allowed) J.DeniedByRule

@@ -1,5 +1,6 @@
+-- What judging means: requests, what a statement says of one, and the judge's answer.
+-- The promises rest on these definitions, and none of these on machinery.
 pub mod Requests
 pub mod Meaning
-pub mod Rows
-pub mod Walk
 pub mod Judging
+pub mod machinery

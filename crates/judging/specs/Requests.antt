@@ -6,8 +6,6 @@ use lib.Dec.{eqb, ltb}
 use lib.ListN.{length, getD}
 use Rattle.stored.specs.Choice.{pick}
 use Rattle.stored.specs.Values.{inRange}
-use Rattle.stored.specs.declared.items.Key.{Key}
-use Rattle.stored.specs.declared.items.Key.the-variants as K
 use Rattle.judging.specs.declared.request.Present.{Present}
 
 -- what a column of a request holds
@@ -45,14 +43,6 @@ requestOf principal action resource present vpc prefix vpce referer address =
     ∷ keyValue (present .referer) referer
     ∷ pick (present .address) (number address) absent
     ∷ []
-
--- whether a key is there
-abbrev pub keyPresent : Present → Key → Bool
-keyPresent present K.SourceVpc = present .vpc
-keyPresent present K.Prefix = present .prefix
-keyPresent present K.SourceVpce = present .vpce
-keyPresent present K.Referer = present .referer
-keyPresent present K.SourceIp = present .address
 
 -- columns 0 to 2 hold one byte or more; string bytes lie in 21 to 7E hex
 abbrev pub isFaulty : ℕ → Value → Bool

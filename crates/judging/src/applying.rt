@@ -31,14 +31,15 @@ ghost use lib.Dec.{eqb};
 ghost use lib.ListN.{length, take, drop};
 ghost use Rattle.stored.specs.Items.{columnNegated};
 ghost use Rattle.stored.specs.Operators.{rowOf};
-ghost use Rattle.stored.specs.Writing.{HasKind};
+ghost use Rattle.stored.specs.machinery.Placing.{HasKind};
 ghost use Rattle.stored.specs.Tables.{Listed};
 ghost use Rattle.stored.specs.Entries.{entryOf};
 ghost use Rattle.matching.specs.Network.{agree};
-ghost use Rattle.judging.specs.Requests.{columnOf, keyValue, requestOf, keyPresent};
+ghost use Rattle.judging.specs.Requests.{columnOf, keyValue, requestOf};
+ghost use Rattle.judging.specs.machinery.Presence.{keyPresent};
 ghost use Rattle.judging.specs.Meaning.{listedMatches, elementReading, operatorReading, applies};
-ghost use Rattle.judging.specs.Rows.{rowsWord};
-ghost use Rattle.judging.specs.Walk.{openedOf, conditionOf, itemColumn, stepIn, everyColumn};
+ghost use Rattle.judging.specs.machinery.Rows.{rowsWord};
+ghost use Rattle.judging.specs.machinery.Walk.{openedOf, conditionOf, itemColumn, stepIn, everyColumn};
 ghost use Rattle.judging.specs.Judging.{rowsOf};
 
 // Whether a key is in the request.

@@ -11,8 +11,9 @@ ghost use Prim.Native.Nat.{_≤_};
 ghost use lib.ListN.{length};
 ghost use Rattle.judging.specs.Requests.{requestOf};
 ghost use Rattle.judging.specs.Meaning.{isAllow};
-ghost use Rattle.judging.specs.Rows.{rowsWord};
-ghost use Rattle.judging.specs.Judging.{rowsOf, verdictOfRows, judged, judgement};
+ghost use Rattle.judging.specs.machinery.Rows.{rowsWord};
+ghost use Rattle.judging.specs.Judging.{rowsOf, judged, judgement};
+ghost use Rattle.judging.specs.machinery.Verdict.{verdictOfRows};
 
 pub enum Judgement {
     Allowed,

@@ -25,12 +25,12 @@ ghost use mathlib.Core.Path.{_≡_};
 ghost use Prim.Native.Nat.{_≤_, _+_};
 ghost use lib.ListN.{length, take, drop};
 ghost use Rattle.stored.specs.Items.{keyCode};
-ghost use Rattle.stored.specs.Writing.{HasKind};
+ghost use Rattle.stored.specs.machinery.Placing.{HasKind};
 ghost use Rattle.stored.specs.Tables.{Listed};
 ghost use Rattle.stored.specs.Entries.{entryOf};
 ghost use Rattle.judging.specs.Meaning.{listedMatches, elementReading, operatorReading, isAllow};
-ghost use Rattle.judging.specs.Rows.{rowsWord};
-ghost use Rattle.judging.specs.Walk.{countsOf, elementBegun, conditionBegun, stepOf, gathered, valueIn};
+ghost use Rattle.judging.specs.machinery.Rows.{rowsWord};
+ghost use Rattle.judging.specs.machinery.Walk.{countsOf, elementBegun, conditionBegun, stepOf, gathered, valueIn};
 ghost use Rattle.judging.specs.Judging.{rowsOf};
 
 // The column of addresses.

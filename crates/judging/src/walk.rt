@@ -2,7 +2,7 @@
 // statement begins, a list opens, a listed value was seen.
 use matching::reading::Reading;
 ghost use mathlib.Core.Path.{_≡_};
-ghost use Rattle.judging.specs.Walk.{freshWalk, closedOf, doneOf, beganOf, openedOf, mattersOf, seenOf, conditionOf};
+ghost use Rattle.judging.specs.machinery.Walk.{freshWalk, closedOf, doneOf, beganOf, openedOf, mattersOf, seenOf, conditionOf};
 
 pub struct Walk {
     // The bit of the row at hand, and of the next one.

@@ -8,9 +8,9 @@ use native.Mathlib.Omega.{arith}
 use lib.ListN.{getD}
 use lib.Dec.{eqb}
 use Rattle.matching.specs.Symbols.{pick}
-use Rattle.matching.specs.Codes.{startCode, starCode, oneCode, takesByte}
-use Rattle.matching.specs.Rows.{positions, stepBit, wordBit, rowBit, packWord, stepRow}
-use Rattle.matching.specs.Words.{movedUp, aheadRow}
+use Rattle.matching.specs.machinery.Codes.{startCode, starCode, oneCode, takesByte}
+use Rattle.matching.specs.machinery.Rows.{positions, stepBit, wordBit, rowBit, packWord, stepRow}
+use Rattle.matching.specs.machinery.Words.{movedUp, aheadRow}
 use Rattle.matching.proofs.Rows.{word-same, row-bit, row-same}
 use Rattle.matching.proofs.MarkedRows.{row-at}
 

@@ -8,9 +8,9 @@ use lib.ListN.{length, getD}
 use lib.Dec.{eqb, ltb}
 use borrow.Author.Tests.{eqb-true, ltb-true, ltb-false}
 use Rattle.matching.specs.Symbols.{pick, foldByte}
-use Rattle.matching.specs.Codes.{starCode, oneCode, takesByte}
-use Rattle.matching.specs.Rows.{positions, cellStep, stepBit, rowBit, stepRow}
-use Rattle.matching.specs.Words.{takenBit, takenRow, starBit, starRow, setStep, inWords, wordsRow}
+use Rattle.matching.specs.machinery.Codes.{starCode, oneCode, takesByte}
+use Rattle.matching.specs.machinery.Rows.{positions, cellStep, stepBit, rowBit, stepRow}
+use Rattle.matching.specs.machinery.Words.{takenBit, takenRow, starBit, starRow, setStep, inWords, wordsRow}
 use Rattle.matching.proofs.Rows.{row-bit, row-same, upto-below, upto-past}
 use Rattle.matching.proofs.Sweeps.{cell-outside}
 

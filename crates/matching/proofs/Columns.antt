@@ -12,9 +12,9 @@ use borrow.Author.Tests.{ltb-true, ltb-false}
 use Rattle.matching.specs.declared.reading.Reading.{Reading}
 use Rattle.matching.specs.Symbols.{symbols, compareOf, ignoresCase}
 use Rattle.matching.specs.Matches.{prefixMatches}
-use Rattle.matching.specs.Codes.{symbolCode, valueCodes, codesOf}
+use Rattle.matching.specs.machinery.Codes.{symbolCode, valueCodes, codesOf}
 use Rattle.matching.specs.State.{listOf, valueState, stateOf}
-use Rattle.matching.specs.Rows.{positions, firstBit, stepBit, nowhere, rowBit, pack, firstRow, stepRow, rowOf, rowBackward}
+use Rattle.matching.specs.machinery.Rows.{positions, firstBit, stepBit, nowhere, rowBit, pack, firstRow, stepRow, rowOf, rowBackward}
 use Rattle.matching.proofs.Rows.{row-bit, row-same}
 use Rattle.matching.proofs.Sweeps.{cell-outside}
 use Rattle.matching.proofs.States.{backward, state-means-forward}

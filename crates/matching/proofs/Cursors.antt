@@ -14,8 +14,8 @@ use Rattle.matching.specs.declared.reading.Reading.{Reading}
 use Rattle.matching.specs.declared.symbols.Cursor.{Cursor}
 use Rattle.matching.specs.declared.symbols.Next.the-variants as N
 use Rattle.matching.specs.Symbols.{Symbol, pick, symbolOf, symbols, isEveryone, isWild, ignoresCase}
-use Rattle.matching.specs.Codes.{symbolCode, symbolCodes}
-use Rattle.matching.specs.Cursor.{sizeFrom, openOf, behind, nextOf, codesLeft}
+use Rattle.matching.specs.machinery.Codes.{symbolCode, symbolCodes}
+use Rattle.matching.specs.machinery.Cursor.{sizeFrom, openOf, behind, nextOf, codesLeft}
 use Rattle.matching.proofs.Parts.{part-more, part-done, part-past}
 
 -- the value that is meant

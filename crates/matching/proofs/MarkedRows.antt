@@ -11,9 +11,9 @@ use lib.ListN.{length, getD, set, replicate, List·getD-eq-default}
 use lib.Dec.{eqb}
 use borrow.Author.Tests.{ne-eqb}
 use Rattle.matching.specs.Symbols.{foldByte}
-use Rattle.matching.specs.Codes.{oneCode, starCode, takesByte}
-use Rattle.matching.specs.Rows.{positions, wordBit, rowBit, packWord, pack, markRow}
-use Rattle.matching.specs.Words.{takenBit, starBit, setStep, movedUp, baseBit, overBit}
+use Rattle.matching.specs.machinery.Codes.{oneCode, starCode, takesByte}
+use Rattle.matching.specs.machinery.Rows.{positions, wordBit, rowBit, packWord, pack, markRow}
+use Rattle.matching.specs.machinery.Words.{takenBit, starBit, setStep, movedUp, baseBit, overBit}
 use Rattle.matching.proofs.Rows.{upto, upto-below, upto-past, below-or-not, word-bit, word-same, row-same, row-none, row-mark}
 
 -- marking

@@ -8,7 +8,8 @@ use lib.Dec.{eqb, leb}
 use lib.Pow.{pow-pos, pow-add, shr-lt}
 use lib.Arith.{digits-lt}
 use borrow.Author.Tests.{le-leb, leb-true, eqb-true, eqb-false}
-use Rattle.matching.specs.Network.{networkSize, agree, networkLow, networkHigh}
+use Rattle.matching.specs.Network.{networkSize, agree}
+use Rattle.matching.specs.machinery.Ranges.{networkLow, networkHigh}
 
 -- over any size of ranges
 module _ (size : ℕ) (some : 0 < size) (n a : ℕ) where

@@ -7,7 +7,8 @@ use Prim.Native.Nat.{ℕ, suc, _<_}
 use lib.ListN.{length, getD, take}
 use lib.Seq.{take-suc}
 use Rattle.matching.specs.Symbols.{Symbol, star, one, byte}
-use Rattle.matching.specs.Matches.{symbolFirst, symbolStep, isEmpty, someEnd, firstAndRest, anyByte, matches, prefixMatches}
+use Rattle.matching.specs.Matches.{isEmpty, someEnd, firstAndRest, anyByte, matches, prefixMatches}
+use Rattle.matching.specs.machinery.Steps.{symbolFirst, symbolStep}
 
 or-and-right : (a b c : Bool) → ((a && c) || (b && c)) ≡ ((a || b) && c)
 or-and-right true true true = refl

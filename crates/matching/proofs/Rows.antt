@@ -12,7 +12,7 @@ use lib.Arith.{lt-of-le-ne}
 use lib.Pow.{pow-pos}
 use lib.Bits.{bitOr, or-shifted-r}
 use borrow.Author.Tests.{lt-ltb, le-ltb, ltb-true, ltb-false}
-use Rattle.matching.specs.Rows.{wordBit, rowBit, bitNumber, packWord, pack, markRow}
+use Rattle.matching.specs.machinery.Rows.{wordBit, rowBit, bitNumber, packWord, pack, markRow}
 
 -- f below p, and false from there on
 abbrev pub upto : ℕ → (ℕ → Bool) → ℕ → Bool

@@ -12,9 +12,10 @@ use lib.Dec.{eqb}
 use borrow.Author.Tests.{eq-eqb, ne-eqb, eqb-true, eqb-false}
 use Rattle.matching.specs.declared.reading.Reading.{Reading}
 use Rattle.matching.specs.Symbols.{Symbol, star, one, byte, symbols, foldByte, ignoresCase, sameByte, compareOf, pick}
-use Rattle.matching.specs.Matches.{symbolFirst, symbolStep, matches, valueMatches, prefixMatches}
-use Rattle.matching.specs.Codes.{byteCode, symbolCode, valueCodes, codesOf, takesByte}
-use Rattle.matching.specs.Rows.{positions, cellStep, cellBit, firstBit, stepBit, rowBit, firstRow, stepRow, rowAfter, rowOf, forward, rowBackward}
+use Rattle.matching.specs.Matches.{matches, valueMatches, prefixMatches}
+use Rattle.matching.specs.machinery.Steps.{symbolFirst, symbolStep}
+use Rattle.matching.specs.machinery.Codes.{byteCode, symbolCode, valueCodes, codesOf, takesByte}
+use Rattle.matching.specs.machinery.Rows.{positions, cellStep, cellBit, firstBit, stepBit, rowBit, firstRow, stepRow, rowAfter, rowOf, forward, rowBackward}
 use Rattle.matching.proofs.Prefixes.{prefix-first-start, prefix-step-start, prefix-first, prefix-step}
 use Rattle.matching.proofs.Rows.{row-bit}
 

@@ -11,7 +11,7 @@ use lib.Seq.{getD-take, take-all}
 use lib.Dec.{ltb}
 use borrow.Author.Tests.{ltb-true, ltb-false, ne-eqb}
 use Rattle.matching.specs.Symbols.{foldByte}
-use Rattle.matching.specs.Rows.{positions, cellStep, cellBit, rowBit, pack, markRow, cellRow, firstRow, stepRow}
+use Rattle.matching.specs.machinery.Rows.{positions, cellStep, cellBit, rowBit, pack, markRow, cellRow, firstRow, stepRow}
 use Rattle.matching.proofs.Rows.{upto, upto-below, upto-past, row-same, row-mark, row-none, row-zero}
 
 -- the codes that are left, the row so far, the next position, and the neighbour's bits, new and old

@@ -12,9 +12,9 @@ use Rattle.matching.specs.declared.symbols.Cursor.{Cursor}
 use Rattle.matching.specs.declared.symbols.Next.the-variants as N
 use Rattle.matching.specs.Symbols.{Symbol, star, one, byte, symbolOf, isWild, ignoresCase, sameByte}
 use Rattle.matching.specs.Matches.{isEmpty, someEnd, matches, valueMatches}
-use Rattle.matching.specs.Codes.{byteCode, symbolCode, takesByte, takesSymbol}
-use Rattle.matching.specs.Cursor.{openOf, behind, nextOf, codesLeft, symbolsLeft, leftMatches}
-use Rattle.matching.specs.Rows.{positions, rowBit, rowOf}
+use Rattle.matching.specs.machinery.Codes.{byteCode, symbolCode, takesByte, takesSymbol}
+use Rattle.matching.specs.machinery.Cursor.{openOf, behind, nextOf, codesLeft, symbolsLeft, leftMatches}
+use Rattle.matching.specs.machinery.Rows.{positions, rowBit, rowOf}
 use Rattle.matching.proofs.Parts.{part-more, part-done, part-past}
 use Rattle.matching.proofs.Prefixes.{some-end-empty}
 use Rattle.matching.proofs.States.{takes, large, symbols-decide}

@@ -8,8 +8,8 @@ use lib.Dec.{eqb}
 use lib.Pow.{pow-pos}
 use lib.Bits.{bitAnd, bitOr, bitXor, and-block, or-block, xor-block}
 use borrow.Author.Tests.{eqb-true, eqb-false}
-use Rattle.matching.specs.Rows.{wordBit, bitNumber, packWord, nowhere}
-use Rattle.matching.specs.Words.{movedUp, baseBit, overBit}
+use Rattle.matching.specs.machinery.Rows.{wordBit, bitNumber, packWord, nowhere}
+use Rattle.matching.specs.machinery.Words.{movedUp, baseBit, overBit}
 use Rattle.matching.proofs.Rows.{bit-small, bit-behind, word-none, word-same}
 
 -- a word is packed of its bits

@@ -1,9 +1,7 @@
--- What matching means: symbols and readings, when symbols match a string, the codes of positions, states, and networks.
+-- What matching means: symbols and readings, when symbols match a string, states, and networks.
+-- The promises rest on these definitions, and none of these on machinery.
 pub mod Symbols
 pub mod Matches
-pub mod Codes
-pub mod Cursor
 pub mod State
-pub mod Rows
-pub mod Words
 pub mod Network
+pub mod machinery

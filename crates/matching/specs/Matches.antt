@@ -37,16 +37,3 @@ valueMatches reading value string = matches (compareOf reading) (symbols reading
 -- the first j symbols match the whole string: the pair (value, j) is in the string's state
 unfoldable pub prefixMatches : (ℕ → ℕ → Bool) → List Symbol → List ℕ → ℕ → Bool
 prefixMatches eq p string j = matches eq (take j p) string
-
--- what one symbol more asks of the empty string, given the symbols in front of it
-abbrev pub symbolFirst : Symbol → Bool → Bool
-symbolFirst star new = new
-symbolFirst one new = false
-symbolFirst (byte c) new = false
-
--- what one symbol more asks of a string that ends in b. `new`: the symbols in front match the string; `before`: they match it
--- without b; `here`: they match it without b with the symbol itself
-abbrev pub symbolStep : (ℕ → ℕ → Bool) → ℕ → Symbol → Bool → Bool → Bool → Bool
-symbolStep eq b star new before here = new || here
-symbolStep eq b one new before here = before
-symbolStep eq b (byte c) new before here = before && eq c b

@@ -1,6 +1,6 @@
 -- When an address is in a network, in bits and as a range of addresses.
 use mathlib.Core.Bool.{Bool}
-use Prim.Native.Nat.{ℕ, _+_, _-_, _*_, _/_, _^_}
+use Prim.Native.Nat.{ℕ, _-_, _/_, _^_}
 use lib.Dec.{eqb}
 
 -- the number of addresses of a network with that prefix length (over 32 as 32)
@@ -10,11 +10,3 @@ networkSize length = 2 ^ (32 - length)
 -- network and address agree in the first `length` of their 32 bits
 abbrev pub agree : ℕ → ℕ → ℕ → Bool
 agree network address length = eqb (network / networkSize length) (address / networkSize length)
-
--- the lowest address of a network
-abbrev pub networkLow : ℕ → ℕ → ℕ
-networkLow network length = network / networkSize length * networkSize length
-
--- the highest address of a network
-abbrev pub networkHigh : ℕ → ℕ → ℕ
-networkHigh network length = networkLow network length + (networkSize length - 1)

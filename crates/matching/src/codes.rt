@@ -1,7 +1,7 @@
 // The codes of positions: what the step to a position asks of a byte.
 ghost use mathlib.Core.Path.{_≡_};
 ghost use Rattle.matching.specs.Symbols.{foldByte, symbolOf};
-ghost use Rattle.matching.specs.Codes.{byteCode, symbolCode, takesByte, takesSymbol};
+ghost use Rattle.matching.specs.machinery.Codes.{byteCode, symbolCode, takesByte, takesSymbol};
 
 // The code of the start of a value.
 pub const START: u64 = 1;

@@ -1,6 +1,7 @@
 // Networks as ranges of addresses.
 ghost use mathlib.Core.Path.{_≡_};
-ghost use Rattle.matching.specs.Network.{agree, networkSize, networkLow, networkHigh};
+ghost use Rattle.matching.specs.Network.{agree, networkSize};
+ghost use Rattle.matching.specs.machinery.Ranges.{networkLow, networkHigh};
 
 // The number of addresses of a network.
 fn network_size(length: u8) -> u64

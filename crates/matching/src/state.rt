@@ -5,7 +5,7 @@ use crate::codes::START;
 use crate::codes::takes_byte;
 ghost use mathlib.Core.Path.{_≡_};
 ghost use Prim.Native.Nat.{_<_};
-ghost use Rattle.matching.specs.Rows.{positions, rowBit, markRow, cellStep, firstRow, cellRow};
+ghost use Rattle.matching.specs.machinery.Rows.{positions, rowBit, markRow, cellStep, firstRow, cellRow};
 
 // The number of positions of a row.
 pub const POSITIONS: usize = 512;

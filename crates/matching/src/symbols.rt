@@ -6,7 +6,7 @@ use crate::reading::ignores_case;
 ghost use mathlib.Core.Path.{_≡_};
 ghost use lib.ListN.{take, drop};
 ghost use Rattle.matching.specs.Symbols.{isWild};
-ghost use Rattle.matching.specs.Cursor.{openOf, nextOf, sizeFrom};
+ghost use Rattle.matching.specs.machinery.Cursor.{openOf, nextOf, sizeFrom};
 
 // The place in the table of the next symbol of a value, where the value ends, and how its bytes are read.
 pub struct Cursor {

@@ -16,9 +16,9 @@ ghost use mathlib.Core.List.{_∷_};
 ghost use Prim.Native.Nat.{_<_, _≤_};
 ghost use lib.ListN.{length, take, drop};
 ghost use Rattle.matching.specs.Matches.{valueMatches};
-ghost use Rattle.matching.specs.Codes.{starCode};
-ghost use Rattle.matching.specs.Cursor.{nextOf, codesLeft, leftMatches};
-ghost use Rattle.matching.specs.Rows.{positions, cellRow};
+ghost use Rattle.matching.specs.machinery.Codes.{starCode};
+ghost use Rattle.matching.specs.machinery.Cursor.{nextOf, codesLeft, leftMatches};
+ghost use Rattle.matching.specs.machinery.Rows.{positions, cellRow};
 
 // The number of symbols from the cursor on.
 fn count_symbols(table: &[u8], first: Cursor) -> usize

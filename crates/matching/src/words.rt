@@ -5,8 +5,8 @@ use crate::state::mark;
 ghost use mathlib.Core.Path.{_≡_};
 ghost use Prim.Native.Nat.{_≤_};
 ghost use lib.ListN.{length};
-ghost use Rattle.matching.specs.Rows.{wordBit, packWord};
-ghost use Rattle.matching.specs.Words.{starRow, aheadRow, wordsRow, movedUp, baseBit, overBit};
+ghost use Rattle.matching.specs.machinery.Rows.{wordBit, packWord};
+ghost use Rattle.matching.specs.machinery.Words.{starRow, aheadRow, wordsRow, movedUp, baseBit, overBit};
 
 // The positions behind a star.
 pub fn stars_of(codes: &[u64]) -> [u64; 8]

@@ -9,7 +9,7 @@ use lib.Bits.{bitAnd, bitOr, and-step, or-step, and-shr, or-shr}
 use lib.Count.{trailingZeros, under}
 use lib.Dec.{eqb, eqb·zero-suc, eqb·suc-zero, eqb·suc-suc}
 use lib.Pow.{shr-lt, shr-shr}
-use Rattle.matching.specs.Rows.{wordBit}
+use Rattle.matching.specs.machinery.Rows.{wordBit}
 use Rattle.matching.proofs.Rows.{bit-behind}
 
 -- bit by bit

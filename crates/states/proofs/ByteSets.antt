@@ -12,10 +12,10 @@ use lib.Dec.{eqb}
 use lib.ListN.{length, getD, set}
 use lib.Seq.{getD-set-same, getD-set-other}
 use borrow.Author.Tests.{eqb-true, eqb-false, ne-eqb}
-use Rattle.matching.specs.Rows.{wordBit, rowBit}
+use Rattle.matching.specs.machinery.Rows.{wordBit, rowBit}
 use Rattle.matching.proofs.MarkedRows.{row-at}
-use Rattle.states.specs.Rows.{IsByte}
-use Rattle.states.specs.Bytes.{Adds, NextBit, NextByte, ToTry}
+use Rattle.states.specs.machinery.Rows.{IsByte}
+use Rattle.states.specs.machinery.Bytes.{Adds, NextBit, NextByte, ToTry}
 use Rattle.states.proofs.Below.{below-or-from}
 use Rattle.states.proofs.BitsOfWords.{bit-or, bit-power, bit-left, trailing-here, left-none, left-zeros, left-few}
 use Rattle.states.proofs.CodeBytes.{eqb-same}

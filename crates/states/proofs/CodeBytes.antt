@@ -8,9 +8,9 @@ use lib.Arith.{lt-of-le-ne}
 use lib.Dec.{eqb, leb}
 use borrow.Author.Tests.{leb-true, leb-false, eqb-true, eqb-false, eq-eqb, ne-eqb}
 use Rattle.stored.specs.Choice.{pick}
-use Rattle.matching.specs.Codes.{oneCode, takesByte}
+use Rattle.matching.specs.machinery.Codes.{oneCode, takesByte}
 use Rattle.matching.specs.Symbols.{foldByte}
-use Rattle.states.specs.Taken.{takes}
+use Rattle.states.specs.machinery.Taken.{takes}
 
 -- two tests that hold together
 pub eqb-same : (a b c d : ℕ) → (a ≡ b → c ≡ d) → (c ≡ d → a ≡ b) → eqb a b ≡ eqb c d

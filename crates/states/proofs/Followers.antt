@@ -10,11 +10,11 @@ use lib.Arith.{lt-of-le-ne}
 use lib.Dec.{eqb}
 use lib.ListN.{replicate}
 use borrow.Author.Tests.{eqb-true, eqb-false}
-use Rattle.matching.specs.Rows.{rowBit}
+use Rattle.matching.specs.machinery.Rows.{rowBit}
 use Rattle.matching.proofs.Rows.{row-zero}
-use Rattle.states.specs.Rows.{IsByte, Tells}
-use Rattle.states.specs.Taken.{IsFollower, FollowersOf, FollowersBelow}
-use Rattle.states.specs.Bytes.{Adds}
+use Rattle.states.specs.machinery.Rows.{IsByte, Tells}
+use Rattle.states.specs.machinery.Taken.{IsFollower, FollowersOf, FollowersBelow}
+use Rattle.states.specs.machinery.Bytes.{Adds}
 use Rattle.states.proofs.Below.{below-or-from}
 
 -- the same claim, said otherwise

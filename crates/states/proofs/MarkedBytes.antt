@@ -11,9 +11,9 @@ use lib.Dec.{eqb, ltb}
 use lib.ListN.{length, getD, take, drop, set, length-set}
 use lib.Seq.{getD-set-other, take-set-le, take-set-lt, drop-set-lt, drop-set-add}
 use borrow.Author.Tests.{lt-ltb, le-ltb, eqb-true, eqb-false, ne-eqb}
-use Rattle.matching.specs.Rows.{markRow}
-use Rattle.states.specs.Rows.{takenAt, starsAt, rowAt, IsByte, takenLaid}
-use Rattle.states.specs.Taken.{markedAt, Marks}
+use Rattle.matching.specs.machinery.Rows.{markRow}
+use Rattle.states.specs.machinery.Rows.{takenAt, starsAt, rowAt, IsByte, takenLaid}
+use Rattle.states.specs.machinery.Taken.{markedAt, Marks}
 use Rattle.states.proofs.Below.{below-or-from}
 use Rattle.states.proofs.RowsInWords.{part-same, row-word}
 

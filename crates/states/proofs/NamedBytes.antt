@@ -6,11 +6,11 @@ use mathlib.Core.List.{List}
 use mathlib.Core.Logic.{_⊎_, inl, inr}
 use native.Mathlib.Omega.{arith}
 use lib.ListN.{getD}
-use Rattle.matching.specs.Codes.{takesByte}
-use Rattle.matching.specs.Rows.{wordBit, rowBit}
+use Rattle.matching.specs.machinery.Codes.{takesByte}
+use Rattle.matching.specs.machinery.Rows.{wordBit, rowBit}
 use Rattle.matching.proofs.MarkedRows.{row-at}
-use Rattle.states.specs.Rows.{codesAt}
-use Rattle.states.specs.Bytes.{Adds, NamesWord, Names}
+use Rattle.states.specs.machinery.Rows.{codesAt}
+use Rattle.states.specs.machinery.Bytes.{Adds, NamesWord, Names}
 use Rattle.states.proofs.Below.{below-or-from}
 
 pub names-begin : (words : List ℕ) (from word : ℕ) (named : List ℕ) → NamesWord words from word named named 0

@@ -7,11 +7,11 @@ use mathlib.Core.Logic.{_⊎_, inl, inr}
 use native.Mathlib.Omega.{arith}
 use lib.ListN.{getD, take, drop}
 use lib.Seq.{getD-take, getD-drop, ext-getD}
-use Rattle.matching.specs.Rows.{wordBit}
-use Rattle.matching.specs.Words.{takenRow}
+use Rattle.matching.specs.machinery.Rows.{wordBit}
+use Rattle.matching.specs.machinery.Words.{takenRow}
 use Rattle.matching.proofs.MarkedRows.{row-at}
-use Rattle.states.specs.Rows.{WordsFit, takenAt, starsAt, followersAt, followersEnd, rowAt, followersLaid}
-use Rattle.states.specs.Taken.{LaysTaken}
+use Rattle.states.specs.machinery.Rows.{WordsFit, takenAt, starsAt, followersAt, followersEnd, rowAt, followersLaid}
+use Rattle.states.specs.machinery.Taken.{LaysTaken}
 use Rattle.states.proofs.Below.{below-or-from}
 use Rattle.states.proofs.BitsOfWords.{bits-same}
 use Rattle.states.proofs.Followers.{followers-once}

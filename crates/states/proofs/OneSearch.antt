@@ -7,9 +7,9 @@ use mathlib.Core.Logic.{_⊎_, inl, inr}
 use native.Mathlib.Omega.{arith}
 use lib.ListN.{length, getD}
 use lib.Seq.{getD-drop, ext-getD}
-use Rattle.matching.specs.Rows.{stepRow}
-use Rattle.states.specs.Rows.{mostStates, keysAt, codesAt, rowAt, keyAt, IsByte}
-use Rattle.states.specs.Search.{stepFrom, Partial, Explored, Exceeded, Explores}
+use Rattle.matching.specs.machinery.Rows.{stepRow}
+use Rattle.states.specs.machinery.Rows.{mostStates, keysAt, codesAt, rowAt, keyAt, IsByte}
+use Rattle.states.specs.machinery.Search.{stepFrom, Partial, Explored, Exceeded, Explores}
 use Rattle.states.proofs.Below.{below-or-from, below-next}
 use Rattle.states.proofs.RowsInWords.{row-word}
 

@@ -8,8 +8,8 @@ use native.Mathlib.Omega.{arith}
 use lib.ListN.{length, getD, take, drop, set, length-take, length-drop, length-set, length-append}
 use lib.Arith.{lt-of-le-ne}
 use lib.Seq.{sets, sets-eq, length-sets, length-take-le, take-all, take-suc, take-at, drop-at, drop-append-le, getD-take, getD-drop, getD-set-same, getD-set-other, drop-set-lt, ext-getD}
-use Rattle.states.specs.Rows.{mostStates, keysAt, codesAt, rowAt, keyAt}
-use Rattle.states.specs.Search.{Untouched}
+use Rattle.states.specs.machinery.Rows.{mostStates, keysAt, codesAt, rowAt, keyAt}
+use Rattle.states.specs.machinery.Search.{Untouched}
 use Rattle.states.proofs.Below.{below-or-from}
 use Rattle.states.proofs.Parts.{sets-behind}
 

@@ -6,9 +6,9 @@ use mathlib.Core.List.{List}
 use mathlib.Core.Logic.{_⊎_, inl, inr}
 use native.Mathlib.Omega.{arith}
 use lib.ListN.{length, take, drop}
-use Rattle.matching.specs.Rows.{firstRow, stepRow, pack}
-use Rattle.states.specs.Rows.{mostStates, codesAt, codesLaid, rowAt, keyAt, IsByte}
-use Rattle.states.specs.Search.{stepFrom, Partial, Exceeded, Searched}
+use Rattle.matching.specs.machinery.Rows.{firstRow, stepRow, pack}
+use Rattle.states.specs.machinery.Rows.{mostStates, codesAt, codesLaid, rowAt, keyAt, IsByte}
+use Rattle.states.specs.machinery.Search.{stepFrom, Partial, Exceeded, Searched}
 use Rattle.states.proofs.Below.{below-or-from, below-next}
 use Rattle.states.proofs.RowsInWords.{withRow, with-row, with-other-row, with-key, with-other-key}
 

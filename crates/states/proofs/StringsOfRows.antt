@@ -11,9 +11,9 @@ use lib.ListN.{length, set, length-append}
 use lib.Seq.{sets, set-comm}
 use borrow.Author.Tests.{eqb-false, ne-eqb}
 use Rattle.stored.specs.Choice.{pick}
-use Rattle.matching.specs.Rows.{forward}
-use Rattle.states.specs.Rows.{keyAt}
-use Rattle.states.specs.Search.{Partial, Keyed, chain}
+use Rattle.matching.specs.machinery.Rows.{forward}
+use Rattle.states.specs.machinery.Rows.{keyAt}
+use Rattle.states.specs.machinery.Search.{Partial, Keyed, chain}
 
 -- the rows of a search have strings
 pub keyed : (codes words : List ℕ) (n t : ℕ) → Partial codes words n t → Keyed words n

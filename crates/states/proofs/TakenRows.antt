@@ -6,14 +6,14 @@ use mathlib.Core.List.{List, [], _∷_, _++_}
 use native.Mathlib.Omega.{arith}
 use lib.ListN.{length, getD, take, drop, set, replicate, length-take, length-drop, length-set, length-append, length-replicate, getD-replicate, List·getD-append}
 use lib.Seq.{sets, length-sets, length-take-le, take-at, take-all, drop-at, drop-cons, take-set-le, drop-set-lt, drop-drop, getD-take, getD-drop, getD-append-add, getD-set-same, getD-set-other, ext-getD}
-use Rattle.matching.specs.Rows.{pack}
-use Rattle.matching.specs.Words.{takenBit, takenRow, starRow, wordsRow}
+use Rattle.matching.specs.machinery.Rows.{pack}
+use Rattle.matching.specs.machinery.Words.{takenBit, takenRow, starRow, wordsRow}
 use Rattle.matching.proofs.Rows.{upto}
 use Rattle.matching.proofs.ByWords.{step-by-words}
 use Rattle.matching.proofs.MarkedRows.{none-marked, mark-more, all-marked, taken-outside}
-use Rattle.states.specs.Rows.{printsAt, codesAt, takenAt, starsAt, followersAt, followersEnd, rowAt, codesLaid, IsByte, takenLaid, starsLaid, followersLaid}
-use Rattle.states.specs.Taken.{takes, Marks, RowsLaid, FollowersOf, FollowersSet, Takes, LaysTaken}
-use Rattle.states.specs.Search.{stepFrom, Searchable}
+use Rattle.states.specs.machinery.Rows.{printsAt, codesAt, takenAt, starsAt, followersAt, followersEnd, rowAt, codesLaid, IsByte, takenLaid, starsLaid, followersLaid}
+use Rattle.states.specs.machinery.Taken.{takes, Marks, RowsLaid, FollowersOf, FollowersSet, Takes, LaysTaken}
+use Rattle.states.specs.machinery.Search.{stepFrom, Searchable}
 use Rattle.states.proofs.Parts.{part-kept, front-kept, sets-front, sets-behind}
 use Rattle.states.proofs.Followers.{followers-as}
 use Rattle.states.proofs.RowsInWords.{row-length, row-word, row-laid, row-kept}

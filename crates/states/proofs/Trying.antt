@@ -7,14 +7,14 @@ use mathlib.Core.List.{List}
 use mathlib.Core.Logic.{_⊎_, inl, inr}
 use native.Mathlib.Omega.{arith}
 use lib.ListN.{getD, List·getD-eq-default}
-use Rattle.matching.specs.Codes.{takesByte}
-use Rattle.matching.specs.Rows.{rowBit, stepRow}
-use Rattle.matching.specs.Words.{takenRow, aheadRow}
+use Rattle.matching.specs.machinery.Codes.{takesByte}
+use Rattle.matching.specs.machinery.Rows.{rowBit, stepRow}
+use Rattle.matching.specs.machinery.Words.{takenRow, aheadRow}
 use Rattle.matching.proofs.ByWords.{same-taken}
 use Rattle.matching.proofs.AlikeBytes.{same-ahead}
-use Rattle.states.specs.Rows.{rowAt, codesLaid, IsByte, followersLaid}
-use Rattle.states.specs.Bytes.{NextByte, ToTry, Names}
-use Rattle.states.specs.Search.{Enough, Searchable, Partial}
+use Rattle.states.specs.machinery.Rows.{rowAt, codesLaid, IsByte, followersLaid}
+use Rattle.states.specs.machinery.Bytes.{NextByte, ToTry, Names}
+use Rattle.states.specs.machinery.Search.{Enough, Searchable, Partial}
 use Rattle.states.proofs.Below.{below-or-from}
 use Rattle.states.proofs.Stepping.{step-known}
 use Rattle.states.proofs.CodeBytes.{names-none}

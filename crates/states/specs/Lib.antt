@@ -1,5 +1,3 @@
--- The states of a column: where they lie, and what exploring them means.
-pub mod Rows
-pub mod Bytes
-pub mod Taken
-pub mod Search
+-- The states of a column: where they lie in the workspace, and what exploring them means. All of it is
+-- machinery: no promise mentions it.
+pub mod machinery

@@ -4,8 +4,8 @@ ghost use mathlib.Core.Path.{_≡_};
 ghost use mathlib.Core.Bool.{_&&_, not};
 ghost use Prim.Native.Nat.{ℕ, _≤_, _<_};
 ghost use lib.Dec.{eqb};
-ghost use Rattle.matching.specs.Rows.{wordBit, rowBit};
-ghost use Rattle.states.specs.Bytes.{Adds, NextBit, NextByte, ToTry};
+ghost use Rattle.matching.specs.machinery.Rows.{wordBit, rowBit};
+ghost use Rattle.states.specs.machinery.Bytes.{Adds, NextBit, NextByte, ToTry};
 
 // A set and one byte more; a number over 127 is none.
 pub(crate) fn with_byte(set: [u64; 2], b: u64) -> [u64; 2]

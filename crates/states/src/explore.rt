@@ -19,8 +19,8 @@ use matching::words::ahead_of;
 use matching::words::step_words;
 ghost use mathlib.Core.Path.{_≡_};
 ghost use Prim.Native.Nat.{_+_, _*_, _<_};
-ghost use Rattle.states.specs.Rows.{IsByte, codesLaid, rowAt};
-ghost use Rattle.states.specs.Search.{Searchable, Enough, Partial, Searched, Explores};
+ghost use Rattle.states.specs.machinery.Rows.{IsByte, codesLaid, rowAt};
+ghost use Rattle.states.specs.machinery.Search.{Searchable, Enough, Partial, Searched, Explores};
 
 // The bytes to try from a row: every other one leads where a smaller one leads.
 fn bytes_from(words: &[u64], positions: usize, row: [u64; 8]) -> [u64; 2]

@@ -4,10 +4,10 @@ use crate::limits::CODES;
 ghost use Prim.Native.Nat.{_*_, _≤_};
 ghost use lib.Dec.{eqb};
 ghost use lib.ListN.{length};
-ghost use Rattle.matching.specs.Codes.{takesByte};
+ghost use Rattle.matching.specs.machinery.Codes.{takesByte};
 ghost use Rattle.matching.specs.Symbols.{foldByte};
-ghost use Rattle.states.specs.Rows.{takenAt};
-ghost use Rattle.states.specs.Bytes.{Adds, NamesWord, Names};
+ghost use Rattle.states.specs.machinery.Rows.{takenAt};
+ghost use Rattle.states.specs.machinery.Bytes.{Adds, NamesWord, Names};
 
 // Also the bytes that are this one without their case: none is a capital letter.
 fn name_folded(named: [u64; 2], b: u64) -> [u64; 2]

@@ -3,8 +3,8 @@ ghost use mathlib.Core.Path.{_≡_};
 ghost use Prim.Native.Nat.{_+_, _*_, _≤_, _<_};
 ghost use lib.ListN.{length, getD, replicate};
 ghost use lib.Seq.{sets};
-ghost use Rattle.states.specs.Rows.{rowAt, Tells};
-ghost use Rattle.states.specs.Search.{FirstAt};
+ghost use Rattle.states.specs.machinery.Rows.{rowAt, Tells};
+ghost use Rattle.states.specs.machinery.Search.{FirstAt};
 
 // All words are zero.
 pub fn clear(words: &mut [u64])

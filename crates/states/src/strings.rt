@@ -4,7 +4,7 @@ ghost use mathlib.Core.Path.{_≡_};
 ghost use Prim.Native.Nat.{_+_, _≤_, _<_};
 ghost use lib.ListN.{length};
 ghost use lib.Seq.{sets};
-ghost use Rattle.states.specs.Search.{HasString, stringOf};
+ghost use Rattle.states.specs.machinery.Search.{HasString, stringOf};
 
 // The length of the string of row i.
 pub fn string_length(words: &[u64], i: usize, n: usize) -> usize

@@ -21,8 +21,8 @@ ghost use Prim.Native.Nat.{_+_, _*_, _≤_, _<_};
 ghost use lib.Dec.{eqb};
 ghost use lib.ListN.{length};
 ghost use Rattle.matching.specs.Symbols.{foldByte};
-ghost use Rattle.states.specs.Rows.{printsAt, starsAt, takenLaid, codesLaid};
-ghost use Rattle.states.specs.Taken.{markedAt, takes, Marks, RowsLaid, FollowersOf, FollowersBelow, FollowersSet, LaysTaken};
+ghost use Rattle.states.specs.machinery.Rows.{printsAt, starsAt, takenLaid, codesLaid};
+ghost use Rattle.states.specs.machinery.Taken.{markedAt, takes, Marks, RowsLaid, FollowersOf, FollowersBelow, FollowersSet, LaysTaken};
 
 // Marks position p in row i.
 fn mark_at(words: &mut [u64], i: usize, p: usize)

@@ -11,7 +11,8 @@ use borrow.Author.Tests.{ltb-true, ltb-false, eqb-true}
 use Rattle.stored.specs.Choice.{pick}
 use Rattle.stored.specs.Machine.{freshState, isEnded, takesKind, columnPhase, countedState, openedState, listedState, filledState, endedState, kindOfItem}
 use Rattle.stored.specs.Reading.{finishOf, stepAt, afterStep, readFrom, reading}
-use Rattle.stored.specs.Entries.{Entry, entryOf, itemOf, bytesOf, entriesFrom, entriesOf, admit, Follows, Accepted}
+use Rattle.stored.specs.Entries.{Entry, entryOf, itemOf, bytesOf, entriesFrom, entriesOf}
+use Rattle.stored.specs.machinery.Following.{admit, Follows, Accepted}
 use Rattle.stored.specs.Entries.Entry.{start, statement, column, condition, network, value, end}
 use Rattle.stored.specs.Tables.{tableOf}
 use Rattle.stored.specs.declared.items.Column.{Column}

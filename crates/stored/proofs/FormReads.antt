@@ -16,7 +16,8 @@ use Rattle.stored.specs.Values.{hasWildcard, isStarAlone}
 use Rattle.stored.specs.Networks.{networkSound}
 use Rattle.stored.specs.Machine.{freshState, isEnded, isUnknown, isContent, isPrincipals, isText, sameSort, soundIn, takesKind, leavesEmpty, columnPhase, placeDue, countedState, openedState, listedState, filledState, endedState, valueFault}
 use Rattle.stored.specs.Reading.{reading}
-use Rattle.stored.specs.Entries.{Entry, encode, admit, AllFit}
+use Rattle.stored.specs.Entries.{Entry, encode, AllFit}
+use Rattle.stored.specs.machinery.Following.{admit}
 use Rattle.stored.specs.Entries.Entry.{start, statement, column, condition, network, value, end}
 use Rattle.stored.specs.Tables.{Listed, Element, Condition, Statement, Part, before, gather, tableOf, rowsOf, listedFor, elementsFor, conditionsFor, statementsFor, entriesFor, placesOf, elementsList, conditionsList, WellFormed, MayHold, IsPrincipal, SoundElement, SoundCondition, SoundStatement}
 use Rattle.stored.specs.Tables.Listed.{text, range}

@@ -12,7 +12,8 @@ use Rattle.stored.specs.Items.{effectCode, columnCode, keyCode, keyOf}
 use Rattle.stored.specs.Operators.{codeOf, operatorOf}
 use Rattle.stored.specs.Records.{kindOf, sizeOf, decodeOf, statementOf, columnOf, conditionOf, addressOf, known, recordAt}
 use Rattle.stored.specs.Writing.{recordOf}
-use Rattle.stored.specs.Entries.{Entry, entryOf, itemOf, bytesOf, admit, Bytes, Fits, HasRecord}
+use Rattle.stored.specs.Entries.{Entry, entryOf, itemOf, bytesOf, Bytes, Fits, HasRecord}
+use Rattle.stored.specs.machinery.Following.{admit}
 use Rattle.stored.specs.Entries.Entry.{start, statement, column, condition, network, value, end}
 use Rattle.stored.specs.declared.items.Effect.{Effect}
 use Rattle.stored.specs.declared.items.Effect.the-variants as E

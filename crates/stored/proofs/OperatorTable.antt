@@ -5,7 +5,8 @@ use Prim.Native.Nat.{ℕ, _+_, _<_}
 use lib.Dec.{eqb, lit<}
 use lib.ListN.{getD, drop}
 use Rattle.stored.specs.Choice.{pick}
-use Rattle.stored.specs.Operators.{rowOf, rowPlace, operatorOf}
+use Rattle.stored.specs.Operators.{rowOf, operatorOf}
+use Rattle.stored.specs.machinery.OperatorTable.{rowPlace}
 use Rattle.stored.proofs.Lists.{left}
 use borrow.Author.Tests.{eq-eqb, ne-eqb}
 use Rattle.stored.specs.declared.items.Operator.{Operator}

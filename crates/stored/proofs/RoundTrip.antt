@@ -14,7 +14,8 @@ use Rattle.stored.specs.Records.{recordAt}
 use Rattle.stored.specs.Machine.{freshState, isEnded, admitItem}
 use Rattle.stored.specs.Reading.{finishOf, stepAt, afterStep, readFrom, reading}
 use Rattle.stored.specs.Writing.{freshWriter, recordOf}
-use Rattle.stored.specs.Entries.{Entry, entryOf, itemOf, bytesOf, encode, entriesFrom, entriesOf, admit, Bytes, AllFit, Writes}
+use Rattle.stored.specs.Entries.{Entry, entryOf, itemOf, bytesOf, encode, entriesFrom, entriesOf, Bytes, AllFit, Writes}
+use Rattle.stored.specs.machinery.Following.{admit}
 use Rattle.stored.specs.Entries.Entry.{start, statement, column, condition, network, value, end}
 use Rattle.stored.specs.declared.items.Item.the-variants as I
 use Rattle.stored.specs.declared.records.Record.the-variants as R

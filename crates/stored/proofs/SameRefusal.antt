@@ -14,7 +14,8 @@ use Rattle.stored.specs.Records.{recordAt}
 use Rattle.stored.specs.Machine.{freshState, dueOf, admitItem}
 use Rattle.stored.specs.Reading.{afterTurn, afterStep, readFrom, reading}
 use Rattle.stored.specs.Writing.{freshWriter, recordOf, placing, writing}
-use Rattle.stored.specs.Entries.{Entry, entryOf, itemOf, bytesOf, encode, admit, AllFit, HasRecord, Writes}
+use Rattle.stored.specs.Entries.{Entry, entryOf, itemOf, bytesOf, encode, AllFit, HasRecord, Writes}
+use Rattle.stored.specs.machinery.Following.{admit}
 use Rattle.stored.specs.declared.items.Item.the-variants as I
 use Rattle.stored.specs.declared.records.Kind.the-variants as K
 use Rattle.stored.specs.declared.records.Record.the-variants as R

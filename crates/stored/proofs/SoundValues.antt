@@ -16,7 +16,8 @@ use Rattle.stored.specs.Values.{inRange, hasVariable, hasWildcard, isSta
 use Rattle.stored.specs.Networks.{networkSound}
 use Rattle.stored.specs.Machine.{isPrincipals, isText, sameSort, soundIn, columnPhase, countedState, openedState, listedState, filledState, endedState, valueFault, turnOf}
 use Rattle.stored.specs.Reading.{reading}
-use Rattle.stored.specs.Entries.{Entry, itemOf, bytesOf, entriesOf, admit}
+use Rattle.stored.specs.Entries.{Entry, itemOf, bytesOf, entriesOf}
+use Rattle.stored.specs.machinery.Following.{admit}
 use Rattle.stored.specs.Entries.Entry.{start, statement, column, condition, network, value, end}
 use Rattle.stored.specs.Tables.{Listed, Element, Condition, Statement, Part, empty, gather, tableOf, rowsOf, MayHold, IsPrincipal, SoundElement, SoundCondition, SoundStatement}
 use Rattle.stored.specs.Tables.Listed.{text, range}

@@ -12,7 +12,8 @@ use Rattle.stored.specs.Items.{columnPlace}
 use Rattle.stored.specs.Operators.{rowOf}
 use Rattle.stored.specs.Machine.{isEnded, isContent, onlyColumn, takesKind, leavesEmpty, columnPhase, placeDue, countedState, openedState, listedState, filledState, endedState, kindOfItem}
 use Rattle.stored.specs.Reading.{reading}
-use Rattle.stored.specs.Entries.{Entry, itemOf, bytesOf, entriesOf, admit}
+use Rattle.stored.specs.Entries.{Entry, itemOf, bytesOf, entriesOf}
+use Rattle.stored.specs.machinery.Following.{admit}
 use Rattle.stored.specs.Entries.Entry.{start, statement, column, condition, network, value, end}
 use Rattle.stored.specs.Tables.{Listed, Element, Condition, Statement, Part, gather, tableOf, rowsOf, placesOf, elementsList, conditionsList, WellFormed}
 use Rattle.stored.specs.Tables.Listed.{text, range}

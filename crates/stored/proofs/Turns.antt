@@ -13,7 +13,8 @@ use Rattle.stored.specs.Operators.{rowOf}
 use Rattle.stored.specs.Values.{inRange, hasVariable}
 use Rattle.stored.specs.Networks.{networkSound}
 use Rattle.stored.specs.Machine.{isEnded, isUnknown, isText, sameSort, soundIn, takesKind, leavesEmpty, dueOf, columnPhase, placeDue, countedState, openedState, listedState, filledState, endedState, valueFault, turnOf, kindOfItem, admitItem}
-use Rattle.stored.specs.Entries.{Entry, entryOf, itemOf, bytesOf, admit}
+use Rattle.stored.specs.Entries.{Entry, entryOf, itemOf, bytesOf}
+use Rattle.stored.specs.machinery.Following.{admit}
 use Rattle.stored.specs.Entries.Entry.{start, statement, column, condition, network, value, end}
 use Rattle.stored.specs.declared.items.Item.{Item}
 use Rattle.stored.specs.declared.items.Item.the-variants as I

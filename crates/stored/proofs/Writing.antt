@@ -11,7 +11,7 @@ use lib.Dec.{ltb, leb, eqb}
 use borrow.Author.Tests.{ltb-false}
 use Rattle.stored.specs.Choice.{pick}
 use Rattle.stored.specs.Machine.{dueOf, kindOfItem, admitItem}
-use Rattle.stored.specs.Writing.{HasKind}
+use Rattle.stored.specs.machinery.Placing.{HasKind}
 use Rattle.stored.specs.declared.items.Item.{Item}
 use Rattle.stored.specs.declared.items.Item.the-variants as I
 use Rattle.stored.specs.declared.machine.State.{State}

@@ -2,12 +2,10 @@
 -- lists of them the state machine takes.
 use Prim.Native.Nat.{ℕ, zero, suc, _+_, _-_, _^_, _≤_, _<_}
 use mathlib.Core.Path.{_≡_}
-use mathlib.Core.Bool.{true}
 use mathlib.Core.List.{List, [], _∷_, _++_}
 use lib.ListN.{length, take, drop}
 use lib.Seq.{sets}
 use Rattle.stored.specs.Records.{recordAt}
-use Rattle.stored.specs.Machine.{freshState, isEnded, admitItem}
 use Rattle.stored.specs.Writing.{recordOf, writing}
 use Rattle.stored.specs.declared.items.Effect.{Effect}
 use Rattle.stored.specs.declared.items.Column.{Column}
@@ -17,9 +15,6 @@ use Rattle.stored.specs.declared.items.Item.{Item}
 use Rattle.stored.specs.declared.items.Item.the-variants as I
 use Rattle.stored.specs.declared.records.Record.{Record}
 use Rattle.stored.specs.declared.records.Record.the-variants as R
-use Rattle.stored.specs.declared.machine.State.{State}
-use Rattle.stored.specs.declared.machine.Turn.{Turn}
-use Rattle.stored.specs.declared.machine.Turn.the-variants as T
 use Rattle.stored.specs.declared.writer.Writer.{Writer}
 use Rattle.stored.specs.declared.writer.WriteAnswer.the-variants as W
 
@@ -83,20 +78,6 @@ entriesFrom t at = walk (length t - at) t at
 -- the entries of a byte string
 abbrev pub entriesOf : List ℕ → List Entry
 entriesOf t = entriesFrom t 0
-
--- the state machine on entries
-abbrev pub admit : State → Entry → Turn
-admit s e = admitItem s (itemOf e) (bytesOf e)
-
--- the state machine takes these entries one after the other, from a state to the end of a table
-abbrev pub Follows : State → List Entry → Type 0
-Follows s [] = isEnded (s .phase) ≡ true
-Follows s (e ∷ es) = (next : State) × (admit s e ≡ T.Next next) × Follows next es
-
--- entries in order and complete, from the start to the end of a table; the bound of 16,384 bytes is the reader's and the writer's, and
--- is not said here
-abbrev pub Accepted : List Entry → Type 0
-Accepted es = Follows freshState es
 
 -- every number of the list is a byte
 abbrev pub Bytes : List ℕ → Type 0

@@ -1,3 +1,5 @@
+-- What a stored table is: records, the state machine, reading and writing, tables as data.
+-- The promises rest on these definitions, and none of these on machinery.
 pub mod Choice
 pub mod Items
 pub mod Operators
@@ -9,3 +11,4 @@ pub mod Reading
 pub mod Writing
 pub mod Entries
 pub mod Tables
+pub mod machinery

@@ -1,6 +1,6 @@
 -- Writing a table: an item is refused as the reader would refuse its record at that point, then 1, then 14; an accepted item adds
 -- its record behind the last and changes no other byte.
-use Prim.Native.Nat.{ℕ, _+_, _/_, _%_, _≤_}
+use Prim.Native.Nat.{ℕ, _+_, _/_, _%_}
 use mathlib.Core.List.{List, [], _∷_}
 use lib.Dec.{ltb}
 use lib.ListN.{length}
@@ -30,16 +30,6 @@ recordOf (I.Condition o k) bs = 0x04 ∷ codeOf o ∷ keyCode k ∷ []
 recordOf (I.Network a n) bs = 0x06 ∷ (a / 0x1000000 % 0x100) ∷ (a / 0x10000 % 0x100) ∷ (a / 0x100 % 0x100) ∷ (a % 0x100) ∷ n ∷ []
 recordOf I.Value bs = (length bs + 0x3F) ∷ bs
 recordOf I.End bs = 0x05 ∷ []
-
--- a value has at most 128 bytes, so that its kind is at most BF
-abbrev pub HasKind : Item → ℕ → Type 0
-HasKind (I.Start n) size = Unit {0}
-HasKind (I.Statement e) size = Unit {0}
-HasKind (I.Column c) size = Unit {0}
-HasKind (I.Condition o k) size = Unit {0}
-HasKind (I.Network a n) size = Unit {0}
-HasKind I.Value size = size ≤ 128
-HasKind I.End size = Unit {0}
 
 -- 1 where the record would pass 16,384 bytes, then 14 where the buffer is too short, else the next writer
 abbrev pub placing : ℕ → Turn → ℕ → ℕ → WriteAnswer

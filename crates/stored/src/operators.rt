@@ -2,7 +2,8 @@
 use crate::items::Operator;
 use crate::items::Sort;
 ghost use mathlib.Core.Path.{_≡_};
-ghost use Rattle.stored.specs.Operators.{rowPlace, rowOf, operatorOf};
+ghost use Rattle.stored.specs.Operators.{rowOf, operatorOf};
+ghost use Rattle.stored.specs.machinery.OperatorTable.{rowPlace};
 
 pub struct OperatorRow {
     pub code: u8,

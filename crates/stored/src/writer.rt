@@ -14,7 +14,8 @@ ghost use Prim.Native.Nat.{_+_, _≤_};
 ghost use mathlib.Core.List.{[]};
 ghost use lib.ListN.{length};
 ghost use lib.Seq.{sets};
-ghost use Rattle.stored.specs.Writing.{freshWriter, recordOf, HasKind, placing, writing, bufferAfter};
+ghost use Rattle.stored.specs.Writing.{freshWriter, recordOf, placing, writing, bufferAfter};
+ghost use Rattle.stored.specs.machinery.Placing.{HasKind};
 
 // A writer between two items: the state machine's state, and the bytes written so far.
 pub struct Writer {

@@ -15,10 +15,10 @@ use Rattle.judging.specs.Requests.{Value, columns}
 use Rattle.judging.specs.Judging.{rowsOf}
 use Rattle.comparing.specs.Gaps.{Counted}
 use Rattle.comparing.specs.Compared.{workspaceWords, mostKinds, firstWide, Crowded, product, FromWidths, FromTables, Answered, cleared, valueBytes, IsAnswer}
-use Rattle.comparing.specs.Kinds.{countOf, printsIn, printsAlong, pathOf}
-use Rattle.comparing.specs.Product.{printsFrom, SidesOf, valuesAt}
-use Rattle.comparing.specs.ShownValues.{RequestWith, LaysGap}
-use Rattle.comparing.specs.Survey.{Listed, Surveyed}
+use Rattle.comparing.specs.machinery.Kinds.{countOf, printsIn, printsAlong, pathOf}
+use Rattle.comparing.specs.machinery.Product.{printsFrom, SidesOf, valuesAt}
+use Rattle.comparing.specs.machinery.ShownValues.{RequestWith, LaysGap}
+use Rattle.comparing.specs.machinery.Survey.{Listed, Surveyed}
 use Rattle.comparing.specs.declared.answers.Shape.{Shape}
 use Rattle.comparing.specs.declared.answers.Showing.the-variants as S
 use Rattle.comparing.specs.declared.kinds.Sides.{Sides}

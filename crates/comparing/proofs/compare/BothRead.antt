@@ -5,7 +5,7 @@ use mathlib.Core.List.{List}
 use Rattle.stored.specs.Reading.{reading}
 use Rattle.stored.specs.declared.reader.ReadAnswer.the-variants as A
 use Rattle.stored.proofs.Accepting.{accepted, counted, few}
-use Rattle.columns.specs.Both.{BothRead}
+use Rattle.columns.specs.machinery.Both.{BothRead}
 
 pub both-read : (first second : List ℕ) (m n : ℕ) → reading first ≡ A.Accepted m → reading second ≡ A.Accepted n → BothRead first second m
 both-read first second m n one two =

@@ -15,11 +15,11 @@ use Rattle.stored.specs.Choice.{pick}
 use Rattle.stored.specs.Tables.{Statement}
 use Rattle.judging.specs.Requests.{Value, absent, columns}
 use Rattle.judging.specs.Meaning.{holds}
-use Rattle.judging.specs.Rows.{bitOf, rowsWord}
+use Rattle.judging.specs.machinery.Rows.{bitOf, rowsWord}
 use Rattle.judging.proofs.RowSets.{meet, below}
 use Rattle.comparing.specs.Gaps.{Counted, IsGap}
-use Rattle.comparing.specs.Kinds.{isGapRows, total, countOf, stepsTo, leftOf, pathOf}
-use Rattle.comparing.specs.Product.{AllFirsts, inFront, productOf, keep, onlyFirst, gapsAmong, printOf, printsFrom, SidesOf, valuesAt, Inside}
+use Rattle.comparing.specs.machinery.Kinds.{isGapRows, total, countOf, stepsTo, leftOf, pathOf}
+use Rattle.comparing.specs.machinery.Product.{AllFirsts, inFront, productOf, keep, onlyFirst, gapsAmong, printOf, printsFrom, SidesOf, valuesAt, Inside}
 use Rattle.comparing.specs.declared.kinds.Sides.{Sides}
 use Rattle.comparing.proofs.Members.{keep-joined, keep-same, keep-mapped, mapped-at}
 use Rattle.comparing.proofs.Alike.{holdsFrom, applies-from}

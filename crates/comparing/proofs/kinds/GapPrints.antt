@@ -13,7 +13,7 @@ use lib.Pow.{pow-pos}
 use lib.Seq.{drop-drop, drop-set-lt, take-suc-set}
 use borrow.Author.Tests.{le-ltb}
 use Rattle.stored.specs.Choice.{pick}
-use Rattle.comparing.specs.Kinds.{countOf, stepsTo, leftOf, printsAlong, printsFrom, printsIn, columnPrints, Bounded}
+use Rattle.comparing.specs.machinery.Kinds.{countOf, stepsTo, leftOf, printsAlong, printsFrom, printsIn, columnPrints, Bounded}
 use Rattle.comparing.specs.declared.kinds.Sides.{Sides}
 use Rattle.comparing.specs.declared.kinds.Step.{Step}
 use Rattle.comparing.proofs.kinds.GapRows.{shortcut}

@@ -16,11 +16,11 @@ use Rattle.stored.specs.Choice.{some}
 use Rattle.stored.specs.Tables.{Statement}
 use Rattle.judging.specs.Requests.{Value}
 use Rattle.judging.specs.Meaning.{isAllow}
-use Rattle.judging.specs.Rows.{bitOf, rowsWord}
+use Rattle.judging.specs.machinery.Rows.{bitOf, rowsWord}
 use Rattle.judging.proofs.RowSets.{below, none, all-of, joined, some-split}
 use Rattle.comparing.specs.Compared.{product}
-use Rattle.comparing.specs.Kinds.{allowedRows, isGapRows, countOf}
-use Rattle.comparing.specs.Product.{printOf, printsFrom, SidesOf}
+use Rattle.comparing.specs.machinery.Kinds.{allowedRows, isGapRows, countOf}
+use Rattle.comparing.specs.machinery.Product.{printOf, printsFrom, SidesOf}
 use Rattle.comparing.specs.declared.kinds.Sides.{Sides}
 use Rattle.comparing.proofs.Members.{some-same}
 use Rattle.comparing.proofs.kinds.Sums.{total-none, total-most}

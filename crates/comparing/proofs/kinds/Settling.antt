@@ -11,9 +11,9 @@ use lib.Dec.{eqb, ltb}
 use lib.ListN.{length, getD, set, length-set}
 use lib.Seq.{getD-set-same, getD-set-other}
 use borrow.Author.Tests.{eqb-true, ltb-true, ltb-false}
-use Rattle.judging.specs.Rows.{bitOf}
+use Rattle.judging.specs.machinery.Rows.{bitOf}
 use Rattle.comparing.specs.Compared.{product, mostKinds}
-use Rattle.comparing.specs.Kinds.{isGapRows, total, countOf, meetAll, meetOf, isSettled, printsBetween, printsFrom, printsIn, Bounded, kindsFrom, KindsAhead}
+use Rattle.comparing.specs.machinery.Kinds.{isGapRows, total, countOf, meetAll, meetOf, isSettled, printsBetween, printsFrom, printsIn, Bounded, kindsFrom, KindsAhead}
 use Rattle.comparing.specs.declared.kinds.Sides.{Sides}
 use Rattle.comparing.proofs.kinds.GapRows.{and-loses, no-gap, shortcut}
 use Rattle.comparing.proofs.kinds.KindsInWords.{prints-length, next-bound, prints-on}

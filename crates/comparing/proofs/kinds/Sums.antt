@@ -9,7 +9,7 @@ use lib.Dec.{ltb}
 use lib.ListN.{length, getD}
 use borrow.Author.Tests.{ltb-true, ltb-false}
 use Rattle.stored.specs.Choice.{pick}
-use Rattle.comparing.specs.Kinds.{total, stepsTo, leftOf}
+use Rattle.comparing.specs.machinery.Kinds.{total, stepsTo, leftOf}
 
 -- a sum of zeros
 pub total-none : (f : ℕ → ℕ) (l : List ℕ) → ((x : ℕ) → f x ≡ 0) → total f l ≡ 0

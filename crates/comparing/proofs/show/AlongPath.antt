@@ -9,9 +9,9 @@ use Rattle.stored.specs.Tables.{Statement}
 use Rattle.judging.specs.Requests.{Value, absent, columns, columnOf}
 use Rattle.comparing.specs.Requests.{Each}
 use Rattle.comparing.specs.Gaps.{FirstOf, IsGap}
-use Rattle.comparing.specs.Kinds.{countOf, stepsTo, leftOf, pathOf, printsAlong}
-use Rattle.comparing.specs.Product.{AllFirsts, printOf, printsFrom, SidesOf, valuesAt, Inside}
-use Rattle.comparing.specs.ShownValues.{FirstWith, printsOf, RequestWith}
+use Rattle.comparing.specs.machinery.Kinds.{countOf, stepsTo, leftOf, pathOf, printsAlong}
+use Rattle.comparing.specs.machinery.Product.{AllFirsts, printOf, printsFrom, SidesOf, valuesAt, Inside}
+use Rattle.comparing.specs.machinery.ShownValues.{FirstWith, printsOf, RequestWith}
 use Rattle.comparing.specs.declared.kinds.Sides.{Sides}
 use Rattle.comparing.proofs.Members.{in-at, mapped-at}
 use Rattle.comparing.proofs.Product.{firsts-length}

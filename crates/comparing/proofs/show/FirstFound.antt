@@ -13,24 +13,24 @@ use Rattle.stored.specs.Choice.{pick}
 use Rattle.stored.specs.Values.{inRange}
 use Rattle.stored.specs.Tables.{Statement}
 use Rattle.matching.specs.declared.reading.Reading.{Reading}
-use Rattle.matching.specs.Codes.{codesOf}
-use Rattle.matching.specs.Rows.{rowOf}
+use Rattle.matching.specs.machinery.Codes.{codesOf}
+use Rattle.matching.specs.machinery.Rows.{rowOf}
 use Rattle.matching.proofs.States.{row-empty}
 use Rattle.matching.proofs.Columns.{same-row}
 use Rattle.judging.specs.Requests.{Value, absent, text, number}
-use Rattle.states.specs.Rows.{mostStates, rowAt}
-use Rattle.states.specs.Search.{Explored, Exceeded, stringOf}
+use Rattle.states.specs.machinery.Rows.{mostStates, rowAt}
+use Rattle.states.specs.machinery.Search.{Explored, Exceeded, stringOf}
 use Rattle.columns.specs.Values.{valuesIn, sumOf, networksIn}
-use Rattle.columns.specs.Edges.{nextEdge}
-use Rattle.columns.specs.Both.{Narrow}
+use Rattle.columns.specs.machinery.Edges.{nextEdge}
+use Rattle.columns.specs.machinery.Both.{Narrow}
 use Rattle.columns.proofs.Widths.{codes-sum}
 use Rattle.comparing.specs.Order.{Before}
 use Rattle.comparing.specs.Requests.{Admitted, AdmitsNeeded, AdmitsOptional, AdmitsAddress}
 use Rattle.comparing.specs.Gaps.{Alike}
 use Rattle.comparing.specs.Columns.{Few}
 use Rattle.comparing.specs.Compared.{bytesIn}
-use Rattle.comparing.specs.Product.{printOf}
-use Rattle.comparing.specs.ShownValues.{FirstWith, StartsAt, FoundState, LaidValue, Lays, LaysString, NoneBelow}
+use Rattle.comparing.specs.machinery.Product.{printOf}
+use Rattle.comparing.specs.machinery.ShownValues.{FirstWith, StartsAt, FoundState, LaidValue, Lays, LaysString, NoneBelow}
 use Rattle.comparing.specs.declared.show.ShownText.{ShownText}
 use Rattle.comparing.proofs.Admitting.{needed, is-needed, optional, is-optional}
 use Rattle.comparing.proofs.AllStates.{empty-alone, states-many}

@@ -13,7 +13,7 @@ use Rattle.judging.specs.Requests.{Value, absent, text, number, isPresent, colu
 use Rattle.comparing.specs.Requests.{Each, AdmitsAddress}
 use Rattle.comparing.specs.Gaps.{FirstOf}
 use Rattle.comparing.specs.Compared.{valueBytes, valueRoom, bytesIn, addressIn, padded, laid, firstLong}
-use Rattle.comparing.specs.ShownValues.{LaidValue, LaidGap}
+use Rattle.comparing.specs.machinery.ShownValues.{LaidValue, LaidGap}
 use Rattle.comparing.specs.declared.answers.Shape.{Shape}
 use Rattle.comparing.specs.declared.show.ShownText.{ShownText}
 use Rattle.comparing.specs.declared.show.ShownAddress.{ShownAddress}

@@ -8,9 +8,9 @@ use lib.Dec.{eqb}
 use lib.ListN.{length, getD, take, drop, set, length-drop}
 use lib.Seq.{drop-cons, drop-set-add, take-suc-set, length-take-le}
 use Rattle.stored.specs.Choice.{pick, some}
-use Rattle.states.specs.Rows.{printsAt}
-use Rattle.comparing.specs.Adding.{adding, addingRows}
-use Rattle.comparing.specs.Survey.{printsBetween, addPrint, Added}
+use Rattle.states.specs.machinery.Rows.{printsAt}
+use Rattle.comparing.specs.machinery.Adding.{adding, addingRows}
+use Rattle.comparing.specs.machinery.Survey.{printsBetween, addPrint, Added}
 
 -- none
 pub prints-none : (words : List ℕ) (from : ℕ) → printsBetween words from from ≡ []

@@ -13,13 +13,13 @@ use Rattle.stored.specs.Choice.{pick}
 use Rattle.stored.specs.Tables.{Statement}
 use Rattle.judging.specs.Requests.{Value, absent, text, number}
 use Rattle.columns.specs.Values.{networksIn}
-use Rattle.columns.specs.Edges.{nextEdge}
+use Rattle.columns.specs.machinery.Edges.{nextEdge}
 use Rattle.columns.proofs.Edges.{edge-high, next-edge-above}
 use Rattle.comparing.specs.Order.{Before, In}
 use Rattle.comparing.specs.Requests.{Admitted}
 use Rattle.comparing.specs.Gaps.{Alike}
-use Rattle.comparing.specs.Product.{Firsts, printOf}
-use Rattle.comparing.specs.Adding.{addressAt, adding, addingEdges}
+use Rattle.comparing.specs.machinery.Product.{Firsts, printOf}
+use Rattle.comparing.specs.machinery.Adding.{addressAt, adding, addingEdges}
 use Rattle.comparing.proofs.survey.Gathering.{Upto, Next, none-yet, printed-all, gathered-firsts, adding-next}
 use Rattle.comparing.proofs.survey.EdgeSteps.{alike-between, endsAbove, ends-few, ends-fall, edges-all, edges-few, edges-some}
 

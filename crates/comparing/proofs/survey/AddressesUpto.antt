@@ -10,14 +10,14 @@ use borrow.Author.Tests.{ne-eqb}
 use Rattle.stored.specs.Choice.{pick, some}
 use Rattle.stored.specs.Tables.{Statement}
 use Rattle.judging.specs.Requests.{absent, number}
-use Rattle.states.specs.Rows.{printsAt}
+use Rattle.states.specs.machinery.Rows.{printsAt}
 use Rattle.states.proofs.Parts.{part-kept}
 use Rattle.columns.specs.Values.{networksIn}
-use Rattle.columns.specs.Edges.{nextEdge}
-use Rattle.columns.specs.Both.{FewNetworks}
-use Rattle.comparing.specs.Product.{printOf}
-use Rattle.comparing.specs.Adding.{addressAt, adding, addingEdges}
-use Rattle.comparing.specs.Survey.{printsBetween, addPrint, Added, Gathered}
+use Rattle.columns.specs.machinery.Edges.{nextEdge}
+use Rattle.columns.specs.machinery.Both.{FewNetworks}
+use Rattle.comparing.specs.machinery.Product.{printOf}
+use Rattle.comparing.specs.machinery.Adding.{addressAt, adding, addingEdges}
+use Rattle.comparing.specs.machinery.Survey.{printsBetween, addPrint, Added, Gathered}
 use Rattle.comparing.proofs.survey.AddingPrints.{prints-none, prints-length, adding-printed}
 use Rattle.comparing.proofs.survey.Addresses.{AddressesFound, gather-addresses}
 use Rattle.comparing.proofs.survey.EdgeSteps.{edges-on, edges-past}

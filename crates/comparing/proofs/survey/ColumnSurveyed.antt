@@ -6,14 +6,14 @@ use mathlib.Core.Logic.{_⊎_, inl, inr}
 use native.Mathlib.Omega.{arith}
 use lib.ListN.{length, take, drop}
 use Rattle.stored.specs.Tables.{Statement}
-use Rattle.matching.specs.Codes.{codesOf}
-use Rattle.states.specs.Rows.{printsAt, mostStates}
-use Rattle.states.specs.Search.{Explored, Exceeded}
+use Rattle.matching.specs.machinery.Codes.{codesOf}
+use Rattle.states.specs.machinery.Rows.{printsAt, mostStates}
+use Rattle.states.specs.machinery.Search.{Explored, Exceeded}
 use Rattle.columns.specs.Values.{valuesIn}
-use Rattle.columns.specs.Both.{Narrow}
+use Rattle.columns.specs.machinery.Both.{Narrow}
 use Rattle.columns.proofs.Widths.{codes-sum}
 use Rattle.comparing.specs.Columns.{Few, TooMany}
-use Rattle.comparing.specs.Survey.{HasStates, FoundStates, Gathered}
+use Rattle.comparing.specs.machinery.Survey.{HasStates, FoundStates, Gathered}
 use Rattle.comparing.specs.declared.survey.States.{States}
 use Rattle.comparing.proofs.AllStates.{states-few, states-many}
 

@@ -14,13 +14,13 @@ use Rattle.stored.specs.Choice.{pick}
 use Rattle.stored.specs.Tables.{Statement}
 use Rattle.judging.specs.Requests.{Value}
 use Rattle.comparing.specs.Compared.{product, mostKinds}
-use Rattle.comparing.specs.Kinds as kinds
-use Rattle.states.specs.Rows.{printsAt}
-use Rattle.comparing.specs.Kinds.{columnPrints}
+use Rattle.comparing.specs.machinery.Kinds as kinds
+use Rattle.states.specs.machinery.Rows.{printsAt}
+use Rattle.comparing.specs.machinery.Kinds.{columnPrints}
 use Rattle.states.proofs.Parts.{part-kept}
 use Rattle.states.proofs.Below.{below-next}
-use Rattle.comparing.specs.Product.{Firsts, AllFirsts, printOf, printsFrom}
-use Rattle.comparing.specs.Survey.{printsBetween, FewIn, Gathered, Listed}
+use Rattle.comparing.specs.machinery.Product.{Firsts, AllFirsts, printOf, printsFrom}
+use Rattle.comparing.specs.machinery.Survey.{printsBetween, FewIn, Gathered, Listed}
 use Rattle.comparing.proofs.survey.Room.{Room, room-start, room-more, room-fits}
 
 -- a property of each list, from a column up to another

@@ -10,14 +10,14 @@ use lib.ListN.{length}
 use borrow.Author.Tests.{ltb-true, ltb-false, lt-ltb, le-ltb, leb-true, leb-false}
 use Rattle.stored.specs.Choice.{pick}
 use Rattle.stored.specs.Tables.{Statement}
-use Rattle.matching.specs.Network.{networkLow, networkHigh}
+use Rattle.matching.specs.machinery.Ranges.{networkLow, networkHigh}
 use Rattle.judging.specs.Requests.{number}
-use Rattle.judging.specs.Rows.{bitOf}
+use Rattle.judging.specs.machinery.Rows.{bitOf}
 use Rattle.columns.specs.Values.{networksIn}
-use Rattle.columns.specs.Edges.{above, nextEdge}
+use Rattle.columns.specs.machinery.Edges.{above, nextEdge}
 use Rattle.columns.proofs.Edges.{next-edge-above, between-edges}
 use Rattle.comparing.specs.Gaps.{footprint, Alike}
-use Rattle.comparing.specs.Adding.{adding, addingEdges}
+use Rattle.comparing.specs.machinery.Adding.{adding, addingEdges}
 use Rattle.comparing.proofs.survey.Gathering.{adding-some, adding-few}
 
 -- the ends of networks above an address

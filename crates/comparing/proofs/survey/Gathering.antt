@@ -12,13 +12,13 @@ use Rattle.stored.specs.Choice.{pick, some}
 use Rattle.stored.specs.Tables.{Statement}
 use Rattle.judging.specs.Requests.{Value}
 use Rattle.judging.specs.Meaning.{holds}
-use Rattle.judging.specs.Rows.{bitOf, rowsWord}
+use Rattle.judging.specs.machinery.Rows.{bitOf, rowsWord}
 use Rattle.judging.proofs.RowSets.{rows-same}
 use Rattle.comparing.specs.Order.{Before, In, Ascending}
 use Rattle.comparing.specs.Requests.{Admitted}
 use Rattle.comparing.specs.Gaps.{footprint, Alike, FirstOf}
-use Rattle.comparing.specs.Product.{Firsts, printOf}
-use Rattle.comparing.specs.Adding.{adding}
+use Rattle.comparing.specs.machinery.Product.{Firsts, printOf}
+use Rattle.comparing.specs.machinery.Adding.{adding}
 use Rattle.comparing.proofs.Listing.{in-more, ascending-more, map-same, some-true, some-false}
 use Rattle.comparing.proofs.Members.{in-left, in-right, in-mapped, mapped-in}
 

@@ -6,10 +6,10 @@ use native.Mathlib.Omega.{arith}
 use lib.ListN.{length, take, drop, length-append, length-drop}
 use lib.Seq.{sets, sets-eq, length-sets, take-at, drop-at, take-append-le, drop-drop, length-take-le}
 use Rattle.stored.specs.Tables.{Statement}
-use Rattle.matching.specs.Codes.{codesOf}
-use Rattle.states.specs.Rows.{printsAt, codesAt, takenAt, codesLaid}
+use Rattle.matching.specs.machinery.Codes.{codesOf}
+use Rattle.states.specs.machinery.Rows.{printsAt, codesAt, takenAt, codesLaid}
 use Rattle.columns.specs.Values.{valuesIn, sumOf}
-use Rattle.columns.specs.Both.{Narrow}
+use Rattle.columns.specs.machinery.Both.{Narrow}
 use Rattle.columns.proofs.Widths.{codes-sum, sum-both}
 use Rattle.columns.proofs.StateWalk.{codes-both}
 

@@ -7,13 +7,13 @@ use native.Mathlib.Omega.{arith}
 use lib.ListN.{getD, take}
 use lib.Seq.{getD-take}
 use Rattle.stored.specs.Tables.{Statement}
-use Rattle.matching.specs.Codes.{codesOf}
-use Rattle.matching.specs.Rows.{stepRow}
-use Rattle.states.specs.Rows.{mostStates, keysAt, codesAt, rowAt, keyAt, IsByte}
-use Rattle.states.specs.Search.{stepFrom, Partial}
+use Rattle.matching.specs.machinery.Codes.{codesOf}
+use Rattle.matching.specs.machinery.Rows.{stepRow}
+use Rattle.states.specs.machinery.Rows.{mostStates, keysAt, codesAt, rowAt, keyAt, IsByte}
+use Rattle.states.specs.machinery.Search.{stepFrom, Partial}
 use Rattle.states.proofs.Parts.{part-kept}
 use Rattle.columns.specs.Values.{valuesIn}
-use Rattle.comparing.specs.Survey.{HasStates}
+use Rattle.comparing.specs.machinery.Survey.{HasStates}
 
 module _ (words after : List ℕ) (same : take codesAt after ≡ take codesAt words) where
   pub row-stays : (i : ℕ) → i < mostStates → rowAt after i ≡ rowAt words i

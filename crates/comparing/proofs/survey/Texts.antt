@@ -12,19 +12,19 @@ use borrow.Author.Tests.{ne-eqb, ltb-true, ltb-false}
 use Rattle.stored.specs.Choice.{pick}
 use Rattle.stored.specs.Values.{inRange}
 use Rattle.stored.specs.Tables.{Statement}
-use Rattle.matching.specs.Codes.{codesOf}
-use Rattle.matching.specs.Rows.{rowOf}
+use Rattle.matching.specs.machinery.Codes.{codesOf}
+use Rattle.matching.specs.machinery.Rows.{rowOf}
 use Rattle.matching.proofs.States.{row-empty}
 use Rattle.matching.proofs.Columns.{same-row}
 use Rattle.judging.specs.Requests.{Value, absent, text, number}
-use Rattle.states.specs.Rows.{mostStates, rowAt}
-use Rattle.states.specs.Search.{Explored, stringOf}
+use Rattle.states.specs.machinery.Rows.{mostStates, rowAt}
+use Rattle.states.specs.machinery.Search.{Explored, stringOf}
 use Rattle.columns.specs.Values.{valuesIn}
 use Rattle.comparing.specs.Order.{Before, In}
 use Rattle.comparing.specs.Requests.{Admitted, AdmitsNeeded}
 use Rattle.comparing.specs.Gaps.{Alike}
-use Rattle.comparing.specs.Product.{Firsts, printOf}
-use Rattle.comparing.specs.Adding.{textAt, adding, addingRows}
+use Rattle.comparing.specs.machinery.Product.{Firsts, printOf}
+use Rattle.comparing.specs.machinery.Adding.{textAt, adding, addingRows}
 use Rattle.comparing.proofs.Admitting.{needed, is-needed, optional, is-optional}
 use Rattle.comparing.proofs.survey.Gathering.{Upto, Next, none-yet, printed-all, gathered-firsts, adding-next, adding-some, adding-few}
 use Rattle.comparing.proofs.Exploring.{reached, string-reaches, strings-ascend, string-behind}

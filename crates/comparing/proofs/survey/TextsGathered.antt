@@ -7,15 +7,15 @@ use native.Mathlib.Omega.{arith}
 use lib.ListN.{length, take, length-map}
 use Rattle.stored.specs.Tables.{Statement}
 use Rattle.matching.specs.declared.reading.Reading.{Reading}
-use Rattle.matching.specs.Codes.{codesOf}
+use Rattle.matching.specs.machinery.Codes.{codesOf}
 use Rattle.judging.specs.Requests.{absent, text}
-use Rattle.states.specs.Rows.{printsAt, mostStates, codesAt}
+use Rattle.states.specs.machinery.Rows.{printsAt, mostStates, codesAt}
 use Rattle.states.proofs.Parts.{part-kept, front-kept}
 use Rattle.columns.specs.Values.{valuesIn, sumOf}
 use Rattle.columns.proofs.Widths.{codes-sum}
-use Rattle.comparing.specs.Product.{printOf}
-use Rattle.comparing.specs.Adding.{textAt, addingRows}
-use Rattle.comparing.specs.Survey.{HasRoom, HasStates, printsBetween, printAt, addPrint, Added, RowsAdded, Gathered}
+use Rattle.comparing.specs.machinery.Product.{printOf}
+use Rattle.comparing.specs.machinery.Adding.{textAt, addingRows}
+use Rattle.comparing.specs.machinery.Survey.{HasRoom, HasStates, printsBetween, printAt, addPrint, Added, RowsAdded, Gathered}
 use Rattle.comparing.proofs.survey.AddingPrints.{prints-none, prints-length}
 use Rattle.comparing.proofs.survey.StatesKept.{states-kept}
 use Rattle.comparing.proofs.NoValues.{no-values, texts-alike, firsts-none}

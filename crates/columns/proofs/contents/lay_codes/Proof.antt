@@ -7,11 +7,11 @@ use native.Mathlib.Omega.{arith}
 use lib.ListN.{length, take, drop}
 use lib.Seq.{sets}
 use Rattle.stored.proofs.Walking.{inside, body-length}
-use Rattle.matching.specs.Codes.{codesOf}
+use Rattle.matching.specs.machinery.Codes.{codesOf}
 use Rattle.judging.proofs.Records.{record-has-kind}
 use Rattle.columns.specs.Values.{sumOf}
-use Rattle.columns.specs.Contents.{texts}
-use Rattle.columns.specs.Lists.{freshList, movedOf, foundOf, positionsOf}
+use Rattle.columns.specs.machinery.Contents.{texts}
+use Rattle.columns.specs.machinery.Lists.{freshList, movedOf, foundOf, positionsOf}
 use Rattle.columns.proofs.Laying.{sets-append, found-length}
 use Rattle.columns.proofs.LeftInColumn.{leftAt, all-values, sum-on, codes-on, left-cut, left-strange, left-past}
 use borrow.Author.Needs.{needs}

@@ -3,7 +3,7 @@ use mathlib.Core.Path.{sym, _∙_, ap}
 use mathlib.Core.List.{append-nil}
 use lib.ListN.{take, drop}
 use lib.Seq.{sets}
-use Rattle.matching.specs.Codes.{valueCodes}
+use Rattle.matching.specs.machinery.Codes.{valueCodes}
 use Rattle.columns.proofs.LeftInColumn.{no-texts}
 use borrow.Author.Needs.{needs}
 use Rattle.columns.proofs.contents.lay_item.Statement.{statement}

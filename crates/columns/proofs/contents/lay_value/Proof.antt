@@ -6,7 +6,7 @@ use native.Mathlib.Numerals.{add-one}
 use native.Mathlib.Omega.{arith}
 use lib.ListN.{length, length-set, set}
 use lib.Seq.{sets}
-use Rattle.matching.specs.Cursor.{codesLeft}
+use Rattle.matching.specs.machinery.Cursor.{codesLeft}
 use Rattle.matching.proofs.Cursors.{opened, next-more, next-done, opened-few}
 use borrow.Author.Needs.{needs}
 use Rattle.columns.proofs.contents.lay_value.Statement.{statement}

@@ -5,8 +5,8 @@ use Prim.Native.Nat.{_+_, _-_, _≤_}
 use native.Mathlib.Omega.{arith}
 use lib.ListN.{length, length-append}
 use Rattle.stored.proofs.Walking.{inside}
-use Rattle.columns.specs.Contents.{networks}
-use Rattle.columns.specs.Lists.{freshList, movedOf, foundOf}
+use Rattle.columns.specs.machinery.Contents.{networks}
+use Rattle.columns.specs.machinery.Lists.{freshList, movedOf, foundOf}
 use Rattle.columns.proofs.LeftInColumn.{leftAt, all-networks, networks-on, networks-few, left-cut, left-strange, left-past}
 use borrow.Author.Needs.{needs}
 use Rattle.columns.proofs.contents.networks_in.Statement.{statement}

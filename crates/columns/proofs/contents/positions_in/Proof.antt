@@ -7,8 +7,8 @@ use lib.ListN.{length}
 use Rattle.stored.proofs.Walking.{inside}
 use Rattle.judging.proofs.Records.{record-has-kind}
 use Rattle.columns.specs.Values.{sumOf}
-use Rattle.columns.specs.Contents.{texts}
-use Rattle.columns.specs.Lists.{freshList}
+use Rattle.columns.specs.machinery.Contents.{texts}
+use Rattle.columns.specs.machinery.Lists.{freshList}
 use Rattle.columns.proofs.LeftInColumn.{leftAt, all-values, sum-on, left-cut, left-strange, left-past, positions-few}
 use borrow.Author.Needs.{needs}
 use Rattle.columns.proofs.contents.positions_in.Statement.{statement}

@@ -5,8 +5,8 @@ use mathlib.Core.List.{List}
 use Rattle.stored.specs.Entries.{entriesOf}
 use Rattle.judging.specs.Judging.{rowsOf}
 use Rattle.columns.specs.Values.{networksIn}
-use Rattle.columns.specs.Plan.{edgeIn}
-use Rattle.columns.specs.Edges.{nextEdge}
+use Rattle.columns.specs.machinery.Plan.{edgeIn}
+use Rattle.columns.specs.machinery.Edges.{nextEdge}
 use Rattle.columns.proofs.Edges.{edge-append}
 use Rattle.columns.proofs.PlanNetworks.{plan-edge}
 use Rattle.columns.proofs.Widths.{networks-append}

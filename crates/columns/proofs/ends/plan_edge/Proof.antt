@@ -3,7 +3,7 @@ use Prim.Native.Nat.{_-_, _^_, _≤_, min}
 use mathlib.Core.Path.{_≡_}
 use native.Mathlib.Omega.{arith}
 use lib.Seq.{slice}
-use Rattle.columns.specs.Plan.{edgeIn}
+use Rattle.columns.specs.machinery.Plan.{edgeIn}
 use Rattle.columns.proofs.PlanNetworks.{edge-most, edge-next, edge-none}
 use borrow.Author.Needs.{needs}
 use Rattle.columns.proofs.ends.plan_edge.Statement.{statement}

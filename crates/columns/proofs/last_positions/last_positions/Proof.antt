@@ -3,7 +3,7 @@ use mathlib.Core.Path.{_≡_, sym, ap, _∙_}
 use mathlib.Core.List.{List}
 use Prim.Native.Nat.{ℕ, _+_, _-_}
 use lib.Seq.{slice}
-use Rattle.columns.specs.LastPositions.{lastPositions}
+use Rattle.columns.specs.machinery.LastPositions.{lastPositions}
 use Rattle.columns.proofs.LastPositions.{marked-next, marked-none}
 use borrow.Author.Needs.{needs}
 use Rattle.columns.proofs.last_positions.last_positions.Statement.{statement}

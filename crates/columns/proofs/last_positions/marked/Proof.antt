@@ -5,7 +5,7 @@ use native.Mathlib.Omega.{arith}
 use lib.ListN.{length, getD}
 use lib.Bits.{bitOr}
 use lib.Seq.{set-out}
-use Rattle.matching.specs.Rows.{markRow}
+use Rattle.matching.specs.machinery.Rows.{markRow}
 use borrow.Author.Needs.{needs}
 use Rattle.columns.proofs.last_positions.marked.Statement.{statement}
 use Rattle.columns.proofs.last_positions.marked.Tie as tie

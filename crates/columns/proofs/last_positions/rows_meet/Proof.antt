@@ -3,7 +3,7 @@ use mathlib.Core.Path.{_≡_, sym, _∙_}
 use Prim.Native.Nat.{_-_}
 use native.Mathlib.Omega.{arith}
 use lib.ListN.{drop}
-use Rattle.columns.specs.LastPositions.{rowsMeet}
+use Rattle.columns.specs.machinery.LastPositions.{rowsMeet}
 use Rattle.columns.proofs.LastPositions.{meet-here, meet-on, meet-none}
 use borrow.Author.Needs.{needs}
 use Rattle.columns.proofs.last_positions.rows_meet.Statement.{statement}

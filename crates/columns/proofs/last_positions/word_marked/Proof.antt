@@ -1,6 +1,6 @@
 -- The words below the first value are a statement and the two lists.
 use borrow.Author.Tests.{lt-ltb, le-ltb}
-use Rattle.columns.specs.LastPositions.{wordMarked}
+use Rattle.columns.specs.machinery.LastPositions.{wordMarked}
 use borrow.Author.Needs.{needs}
 use Rattle.columns.proofs.last_positions.word_marked.Statement.{statement}
 use Rattle.columns.proofs.last_positions.word_marked.Tie as tie

@@ -9,8 +9,8 @@ use lib.Seq.{sets}
 use Rattle.stored.specs.Entries.{entriesOf}
 use Rattle.stored.proofs.Walking.{inside}
 use Rattle.judging.proofs.Records.{record-has-kind}
-use Rattle.columns.specs.Lists.{movedOf, positionsOf}
-use Rattle.columns.specs.Plan.{planOf, itemWord, wordAlone}
+use Rattle.columns.specs.machinery.Lists.{movedOf, positionsOf}
+use Rattle.columns.specs.machinery.Plan.{planOf, itemWord, wordAlone}
 use Rattle.columns.proofs.LeftInColumn.{positions-few}
 use Rattle.columns.proofs.Laying.{sets-append}
 use Rattle.columns.proofs.PlanSteps.{planLeft, plan-on, plan-cut, plan-strange, plan-past}

@@ -5,7 +5,7 @@ use mathlib.Core.List.{List}
 use native.Mathlib.Omega.{arith}
 use lib.Seq.{sets}
 use Rattle.stored.specs.Entries.{entriesOf}
-use Rattle.columns.specs.Plan.{planOf, LaysPlans}
+use Rattle.columns.specs.machinery.Plan.{planOf, LaysPlans}
 use Rattle.columns.proofs.PlansLaid.{plans-laid}
 use borrow.Author.Needs.{needs}
 use Rattle.columns.proofs.plan.lay_plans.Statement.{statement}

@@ -4,7 +4,7 @@ use Prim.Native.Nat.{ℕ, _+_, _*_, _^_, _<_}
 use native.Mathlib.Omega.{arith}
 use Rattle.judging.specs.Requests.{absent}
 use Rattle.judging.specs.Meaning.{holds}
-use Rattle.judging.specs.Rows.{rowsWord}
+use Rattle.judging.specs.machinery.Rows.{rowsWord}
 use Rattle.judging.specs.Judging.{rowsOf}
 use Rattle.judging.proofs.RowSets.{below, joined}
 use Rattle.columns.proofs.prints.absent_print.Statement.{statement}

@@ -6,10 +6,10 @@ use native.Mathlib.Omega.{arith}
 use Rattle.stored.specs.Entries.{entriesOf}
 use Rattle.judging.specs.Requests.{number}
 use Rattle.judging.specs.Meaning.{holds}
-use Rattle.judging.specs.Rows.{rowsWord}
+use Rattle.judging.specs.machinery.Rows.{rowsWord}
 use Rattle.judging.specs.Judging.{rowsOf}
 use Rattle.judging.proofs.RowSets.{below, joined}
-use Rattle.columns.specs.Plan.{inNetwork, freshRun, doneRun, runPlan}
+use Rattle.columns.specs.machinery.Plan.{inNetwork, freshRun, doneRun, runPlan}
 use Rattle.columns.proofs.PrintWords.{address-side}
 use Rattle.columns.proofs.prints.address_print.Statement.{statement}
 use Rattle.columns.proofs.prints.address_print.Tie as tie

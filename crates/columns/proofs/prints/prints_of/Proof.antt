@@ -2,8 +2,8 @@
 use mathlib.Core.Path.{ap, ap₂, _∙_}
 use mathlib.Core.List.{List}
 use Prim.Native.Nat.{ℕ}
-use Rattle.columns.specs.LastPositions.{lastPositions}
-use Rattle.columns.specs.Prints.{otherPlan, printsOf}
+use Rattle.columns.specs.machinery.LastPositions.{lastPositions}
+use Rattle.columns.specs.machinery.Prints.{otherPlan, printsOf}
 use borrow.Author.Needs.{needs}
 use Rattle.columns.proofs.prints.prints_of.Statement.{statement}
 use Rattle.columns.proofs.prints.prints_of.Tie as tie

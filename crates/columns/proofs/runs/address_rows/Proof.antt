@@ -3,7 +3,7 @@ use mathlib.Core.Path.{_≡_, sym, ap, _∙_}
 use Prim.Native.Nat.{_+_, _-_}
 use lib.Seq.{slice}
 use Rattle.columns.specs.declared.runs.Run.{Run}
-use Rattle.columns.specs.Plan.{inNetwork, freshRun, doneRun, runPlan}
+use Rattle.columns.specs.machinery.Plan.{inNetwork, freshRun, doneRun, runPlan}
 use Rattle.columns.proofs.PlanSteps.{run-next, run-none}
 use borrow.Author.Needs.{needs}
 use Rattle.columns.proofs.runs.address_rows.Statement.{statement}

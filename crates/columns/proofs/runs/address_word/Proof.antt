@@ -2,7 +2,7 @@
 use mathlib.Core.Path.{ap, _∙_}
 use mathlib.Core.Bool.{Bool}
 use borrow.Author.Tests.{lt-ltb, le-ltb}
-use Rattle.columns.specs.Plan.{seenRun, runWord}
+use Rattle.columns.specs.machinery.Plan.{seenRun, runWord}
 use borrow.Author.Needs.{needs}
 use Rattle.columns.proofs.runs.address_word.Statement.{statement}
 use Rattle.columns.proofs.runs.address_word.Tie as tie

@@ -2,9 +2,9 @@
 use mathlib.Core.Path.{_≡_, sym, ap, _∙_}
 use Prim.Native.Nat.{_+_, _-_}
 use lib.Seq.{slice}
-use Rattle.matching.specs.Rows.{rowBit}
+use Rattle.matching.specs.machinery.Rows.{rowBit}
 use Rattle.columns.specs.declared.runs.Run.{Run}
-use Rattle.columns.specs.Plan.{freshRun, doneRun, runPlan}
+use Rattle.columns.specs.machinery.Plan.{freshRun, doneRun, runPlan}
 use Rattle.columns.proofs.PlanSteps.{run-next, run-none}
 use borrow.Author.Needs.{needs}
 use Rattle.columns.proofs.runs.text_rows.Statement.{statement}

@@ -8,8 +8,8 @@ use lib.ListN.{length}
 use Rattle.stored.specs.Tables.{Statement}
 use Rattle.judging.specs.Judging.{rowsOf}
 use Rattle.comparing.specs.Compared.{firstWide, product, mostKinds, IsCount}
-use Rattle.comparing.specs.Kinds.{countOf, printsIn}
-use Rattle.comparing.specs.Survey.{Listed}
+use Rattle.comparing.specs.machinery.Kinds.{countOf, printsIn}
+use Rattle.comparing.specs.machinery.Survey.{Listed}
 use Rattle.comparing.specs.declared.answers.Counting.the-variants as C
 use Rattle.comparing.proofs.compare.NotWide.{not-wide}
 use Rattle.comparing.proofs.compare.Answering.{answer-wide, answer-crowded, answer-over, answer-yes, survey-crowded, survey-listed, within-kinds, counts-gaps}

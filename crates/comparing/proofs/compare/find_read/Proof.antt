@@ -8,8 +8,8 @@ use lib.ListN.{length}
 use Rattle.stored.specs.Tables.{Statement}
 use Rattle.judging.specs.Judging.{rowsOf}
 use Rattle.comparing.specs.Compared.{firstWide, product, mostKinds, IsAnswer, keeps}
-use Rattle.comparing.specs.Kinds.{printsIn}
-use Rattle.comparing.specs.Survey.{Listed}
+use Rattle.comparing.specs.machinery.Kinds.{printsIn}
+use Rattle.comparing.specs.machinery.Survey.{Listed}
 use Rattle.comparing.proofs.compare.NotWide.{not-wide}
 use Rattle.comparing.proofs.compare.Answering.{answer-wide, answer-crowded, answer-over, answer-yes, answer-none, answer-shown, survey-crowded, survey-listed, within-kinds, shows-gap}
 use borrow.Author.Needs.{needs}

@@ -7,9 +7,9 @@ use mathlib.Core.Path.{_≡_, sym, _∙_, ap}
 use native.Mathlib.Omega.{arith}
 use lib.Bits.{bitAnd}
 use lib.ListN.{length, getD}
-use Rattle.judging.specs.Rows.{bitOf}
-use Rattle.states.specs.Rows.{printsAt}
-use Rattle.comparing.specs.Kinds.{isGapRows, countOf, printsIn}
+use Rattle.judging.specs.machinery.Rows.{bitOf}
+use Rattle.states.specs.machinery.Rows.{printsAt}
+use Rattle.comparing.specs.machinery.Kinds.{isGapRows, countOf, printsIn}
 use Rattle.comparing.proofs.kinds.GapRows.{count-most}
 use Rattle.comparing.proofs.kinds.Settling.{settled-once, kinds-ahead}
 use Rattle.comparing.proofs.kinds.KindsInWords.{up, next-within, fewer-kinds, gapsBehind, gapsLeft, gaps-start, gaps-on, gaps-done}

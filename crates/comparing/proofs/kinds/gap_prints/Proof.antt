@@ -6,7 +6,7 @@ use mathlib.Core.List.{map}
 use native.Mathlib.Omega.{arith}
 use lib.ListN.{length}
 use Rattle.comparing.specs.Compared.{product, mostKinds}
-use Rattle.comparing.specs.Kinds.{printsAlong, printsIn}
+use Rattle.comparing.specs.machinery.Kinds.{printsAlong, printsIn}
 use Rattle.comparing.proofs.kinds.KindsInWords.{up, fewer-kinds, along-on}
 use Rattle.comparing.proofs.kinds.GapPrints.{Laid, laid-on, laid-done, along-end, along-empty}
 use borrow.Author.Needs.{needs}

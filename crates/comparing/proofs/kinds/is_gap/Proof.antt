@@ -2,7 +2,7 @@
 use Prim.Native.Nat.{ℕ, _/_, _^_}
 use mathlib.Core.Path.{sym, _∙_, ap}
 use mathlib.Core.Bool.{Bool, not, _&&_}
-use Rattle.comparing.specs.Kinds.{allowedRows}
+use Rattle.comparing.specs.machinery.Kinds.{allowedRows}
 use borrow.Author.Needs.{needs}
 use Rattle.comparing.proofs.kinds.is_gap.Statement.{statement}
 use Rattle.comparing.proofs.kinds.is_gap.Tie as tie

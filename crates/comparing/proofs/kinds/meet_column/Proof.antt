@@ -2,7 +2,7 @@
 use Prim.Native.Nat.{ℕ, _-_, _≤_}
 use mathlib.Core.Path.{_≡_, refl, sym, ap, _∙_}
 use native.Mathlib.Omega.{arith}
-use Rattle.comparing.specs.Kinds.{printsBetween, meetAll}
+use Rattle.comparing.specs.machinery.Kinds.{printsBetween, meetAll}
 use Rattle.comparing.proofs.survey.AddingPrints.{prints-none, prints-next}
 use borrow.Author.Needs.{needs}
 use Rattle.comparing.proofs.kinds.meet_column.Statement.{statement}

@@ -3,7 +3,7 @@ use Prim.Native.Nat.{ℕ, _+_, _-_, _^_, _≤_, _<_}
 use mathlib.Core.Path.{_≡_, refl, sym, ap, _∙_}
 use native.Mathlib.Omega.{arith}
 use lib.ListN.{getD}
-use Rattle.comparing.specs.Kinds.{printsBetween, printsIn, meetAll, meetOf}
+use Rattle.comparing.specs.machinery.Kinds.{printsBetween, printsIn, meetAll, meetOf}
 use Rattle.comparing.proofs.kinds.Settling.{nineOf, RightFrom, right-last, right-more, meets-step}
 use Rattle.comparing.proofs.kinds.KindsInWords.{up, next-within}
 use borrow.Author.Needs.{needs}

@@ -3,7 +3,7 @@ use Prim.Native.Nat.{_*_}
 use mathlib.Core.Path.{sym, _∙_, ap}
 use mathlib.Core.Bool.{Bool}
 use native.Mathlib.Nat.{mul-one}
-use Rattle.judging.specs.Rows.{bitOf}
+use Rattle.judging.specs.machinery.Rows.{bitOf}
 use Rattle.comparing.proofs.kinds.Settling.{none-of}
 use borrow.Author.Needs.{needs}
 use Rattle.comparing.proofs.kinds.settled.Statement.{statement}

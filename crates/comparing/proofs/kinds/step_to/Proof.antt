@@ -4,8 +4,8 @@ use Prim.Native.Nat.{ℕ, _+_, _-_, _≤_, _<_}
 use mathlib.Core.Path.{_≡_, sym, _∙_, ap}
 use native.Mathlib.Omega.{arith}
 use lib.ListN.{length}
-use Rattle.states.specs.Rows.{printsAt}
-use Rattle.comparing.specs.Kinds.{stepOf, printsIn}
+use Rattle.states.specs.machinery.Rows.{printsAt}
+use Rattle.comparing.specs.machinery.Kinds.{stepOf, printsIn}
 use Rattle.comparing.proofs.kinds.KindsInWords.{up, next-within, fewer-kinds, stepLeft, step-start, step-here, step-on, step-done}
 use borrow.Author.Needs.{needs}
 use Rattle.comparing.proofs.kinds.step_to.Statement.{statement}

@@ -3,12 +3,12 @@ use Prim.Native.Nat.{ℕ, _-_, _≤_, _<_}
 use mathlib.Core.Path.{_≡_, sym, _∙_}
 use mathlib.Core.List.{_++_}
 use native.Mathlib.Omega.{arith}
-use Rattle.matching.specs.Codes.{codesOf}
+use Rattle.matching.specs.machinery.Codes.{codesOf}
 use Rattle.judging.specs.Requests.{text}
 use Rattle.judging.specs.Judging.{rowsOf}
-use Rattle.states.specs.Search.{stringOf}
+use Rattle.states.specs.machinery.Search.{stringOf}
 use Rattle.columns.specs.Values.{valuesIn}
-use Rattle.comparing.specs.Product.{printOf}
+use Rattle.comparing.specs.machinery.Product.{printOf}
 use Rattle.comparing.proofs.Exploring.{string-reaches}
 use Rattle.comparing.proofs.show.FirstFound.{none-next}
 use borrow.Author.Needs.{needs}

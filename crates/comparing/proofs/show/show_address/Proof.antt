@@ -9,8 +9,8 @@ use Rattle.judging.specs.Judging.{rowsOf}
 use Rattle.columns.specs.Values.{networksIn}
 use Rattle.columns.proofs.Edges.{edge-high, next-edge-above}
 use Rattle.comparing.specs.Compared.{addressIn}
-use Rattle.comparing.specs.Product.{printOf}
-use Rattle.comparing.specs.ShownValues.{NoneBelow}
+use Rattle.comparing.specs.machinery.Product.{printOf}
+use Rattle.comparing.specs.machinery.ShownValues.{NoneBelow}
 use Rattle.comparing.proofs.show.FirstFound.{absence-found, address-found, none-found, none-more}
 use borrow.Author.Needs.{needs}
 use Rattle.comparing.proofs.show.show_address.Statement.{statement}

@@ -6,7 +6,7 @@ use lib.ListN.{getD}
 use Rattle.judging.specs.Requests.{columnOf}
 use Rattle.judging.specs.Judging.{rowsOf}
 use Rattle.columns.proofs.PlansLaid.{addresses-fit}
-use Rattle.comparing.specs.ShownValues.{FirstWith}
+use Rattle.comparing.specs.machinery.ShownValues.{FirstWith}
 use Rattle.comparing.proofs.show.AlongPath.{first-at}
 use Rattle.comparing.proofs.show.LaidValues.{gap-shown}
 use borrow.Author.Needs.{needs}

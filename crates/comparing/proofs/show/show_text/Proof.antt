@@ -9,10 +9,10 @@ use lib.ListN.{length}
 use Rattle.judging.specs.Requests.{Value}
 use Rattle.judging.specs.Judging.{rowsOf}
 use Rattle.columns.specs.Values.{valuesIn}
-use Rattle.columns.specs.Plan.{HasPlans}
+use Rattle.columns.specs.machinery.Plan.{HasPlans}
 use Rattle.columns.proofs.PlansLaid.{texts-fit}
 use Rattle.columns.proofs.Widths.{sum-both}
-use Rattle.comparing.specs.ShownValues.{LaidValue}
+use Rattle.comparing.specs.machinery.ShownValues.{LaidValue}
 use Rattle.comparing.proofs.show.FirstFound.{codes-few, has-string, explored-few, starts-needed, starts-optional, any-found, string-needed, string-behind-absence, absence-found, lays-value}
 use Rattle.comparing.proofs.NoValues.{no-values}
 use Rattle.comparing.proofs.survey.StatesKept.{states-kept}

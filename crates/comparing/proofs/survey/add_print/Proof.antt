@@ -4,7 +4,7 @@ use mathlib.Core.Path.{refl, sym, _∙_}
 use native.Mathlib.Omega.{arith}
 use lib.ListN.{length-set}
 use lib.Seq.{take-set-le}
-use Rattle.states.specs.Rows.{printsAt}
+use Rattle.states.specs.machinery.Rows.{printsAt}
 use Rattle.comparing.proofs.survey.AddingPrints.{prints-more}
 use borrow.Author.Needs.{needs}
 use Rattle.comparing.proofs.survey.add_print.Statement.{statement}

@@ -7,7 +7,7 @@ use mathlib.Core.List.{_++_}
 use native.Mathlib.Omega.{arith}
 use lib.ListN.{length, take}
 use Rattle.judging.specs.Judging.{rowsOf}
-use Rattle.states.specs.Rows.{printsAt}
+use Rattle.states.specs.machinery.Rows.{printsAt}
 use Rattle.states.proofs.Parts.{front-kept}
 use Rattle.columns.specs.Values.{networksIn}
 use Rattle.columns.proofs.Edges.{edge-high, next-edge-above}

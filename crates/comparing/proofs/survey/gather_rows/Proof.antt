@@ -7,17 +7,17 @@ use native.Mathlib.Omega.{arith}
 use lib.ListN.{length, take}
 use borrow.Author.Tests.{ne-eqb}
 use Rattle.stored.specs.Choice.{pick}
-use Rattle.matching.specs.Codes.{codesOf}
+use Rattle.matching.specs.machinery.Codes.{codesOf}
 use Rattle.judging.specs.Requests.{absent, text}
 use Rattle.judging.specs.Judging.{rowsOf}
-use Rattle.states.specs.Rows.{printsAt, mostStates, codesAt}
-use Rattle.states.specs.Search.{stringOf}
+use Rattle.states.specs.machinery.Rows.{printsAt, mostStates, codesAt}
+use Rattle.states.specs.machinery.Search.{stringOf}
 use Rattle.states.proofs.Parts.{front-kept}
 use Rattle.columns.specs.Values.{valuesIn}
 use Rattle.columns.proofs.PlansLaid.{prepared-stays}
-use Rattle.comparing.specs.Product.{printOf}
-use Rattle.comparing.specs.Adding.{addingRows}
-use Rattle.comparing.specs.Survey.{printsBetween, printAt}
+use Rattle.comparing.specs.machinery.Product.{printOf}
+use Rattle.comparing.specs.machinery.Adding.{addingRows}
+use Rattle.comparing.specs.machinery.Survey.{printsBetween, printAt}
 use Rattle.comparing.proofs.survey.AddingPrints.{row-added}
 use Rattle.comparing.proofs.survey.StatesKept.{row-stays}
 use Rattle.comparing.proofs.Exploring.{string-reaches}

@@ -3,10 +3,10 @@ use Prim.Native.Nat.{_+_}
 use mathlib.Core.Path.{sym, _∙_}
 use mathlib.Core.List.{_++_}
 use native.Mathlib.Omega.{arith}
-use Rattle.matching.specs.Codes.{codesOf}
+use Rattle.matching.specs.machinery.Codes.{codesOf}
 use Rattle.judging.specs.Judging.{rowsOf}
-use Rattle.states.specs.Rows.{printsAt}
-use Rattle.states.specs.Search.{stringOf}
+use Rattle.states.specs.machinery.Rows.{printsAt}
+use Rattle.states.specs.machinery.Search.{stringOf}
 use Rattle.states.proofs.Parts.{front-kept}
 use Rattle.columns.specs.Values.{valuesIn}
 use Rattle.columns.proofs.PlansLaid.{prepared, prepared-stays}

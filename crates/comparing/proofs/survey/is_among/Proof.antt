@@ -5,7 +5,7 @@ use native.Mathlib.Omega.{arith}
 use lib.Dec.{eqb}
 use borrow.Author.Tests.{eq-eqb, ne-eqb}
 use Rattle.stored.specs.Choice.{some}
-use Rattle.comparing.specs.Survey.{printsBetween}
+use Rattle.comparing.specs.machinery.Survey.{printsBetween}
 use Rattle.comparing.proofs.survey.AddingPrints.{prints-none, prints-next}
 use borrow.Author.Needs.{needs}
 use Rattle.comparing.proofs.survey.is_among.Statement.{statement}

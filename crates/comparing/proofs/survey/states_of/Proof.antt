@@ -6,8 +6,8 @@ use mathlib.Core.Logic.{_⊎_}
 use native.Mathlib.Omega.{arith}
 use lib.ListN.{length}
 use Rattle.judging.specs.Judging.{rowsOf}
-use Rattle.states.specs.Rows.{mostStates}
-use Rattle.states.specs.Search.{Explored, Exceeded}
+use Rattle.states.specs.machinery.Rows.{mostStates}
+use Rattle.states.specs.machinery.Search.{Explored, Exceeded}
 use Rattle.states.proofs.TakenRows.{codes-stay, searchable-laid}
 use Rattle.columns.proofs.Widths.{sum-both}
 use Rattle.comparing.proofs.survey.LaidCodes.{withCodes, with-length, part-length, codes-both-laid, prints-stay}

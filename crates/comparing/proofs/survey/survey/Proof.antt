@@ -5,7 +5,7 @@ use native.Mathlib.Numerals.{add-one}
 use native.Mathlib.Omega.{arith}
 use lib.ListN.{length, set}
 use Rattle.judging.specs.Judging.{rowsOf}
-use Rattle.comparing.specs.Survey.{SurveyedColumn}
+use Rattle.comparing.specs.machinery.Survey.{SurveyedColumn}
 use Rattle.comparing.specs.declared.survey.Column.{Column}
 use Rattle.comparing.proofs.survey.ColumnsSurveyed.{ColumnsUpto, columns-begin, columns-on, columns-end}
 use borrow.Author.Needs.{needs}

@@ -4,10 +4,10 @@ use mathlib.Core.Path.{_≡_, sym, _∙_, subst}
 use mathlib.Core.Bool.{true}
 use native.Mathlib.Omega.{arith}
 use Rattle.judging.specs.Judging.{rowsOf}
-use Rattle.columns.specs.Plan.{HasPlans}
+use Rattle.columns.specs.machinery.Plan.{HasPlans}
 use Rattle.columns.proofs.PlansLaid.{texts-fit, addresses-fit}
 use Rattle.columns.proofs.Widths.{sum-both}
-use Rattle.comparing.specs.Survey.{Gathered}
+use Rattle.comparing.specs.machinery.Survey.{Gathered}
 use Rattle.comparing.proofs.survey.ColumnSurveyed.{found-states, found-few, found-many, gathered-behind}
 use Rattle.comparing.proofs.survey.StatesKept.{states-kept}
 use Rattle.comparing.proofs.survey.survey_column.Statement.{statement}

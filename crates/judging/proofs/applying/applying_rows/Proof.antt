@@ -9,7 +9,7 @@ use lib.ListN.{length, take, drop}
 use Rattle.stored.specs.Entries.{entryOf, entriesFrom, entriesOf}
 use Rattle.stored.proofs.Walking.{inside}
 use Rattle.judging.specs.Requests.{columnOf, requestOf}
-use Rattle.judging.specs.Walk.{itemColumn, stepIn, runIn, freshWalk, doneOf, everyColumn}
+use Rattle.judging.specs.machinery.Walk.{itemColumn, stepIn, runIn, freshWalk, doneOf, everyColumn}
 use Rattle.judging.specs.declared.walk.Walk.{Walk}
 use Rattle.judging.proofs.Records.{record-has-kind, entry-item}
 use Rattle.judging.proofs.Walking.{run-in-on, run-in-cut, run-in-strange, run-in-past, walk-applies}

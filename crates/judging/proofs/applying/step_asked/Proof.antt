@@ -3,7 +3,7 @@ use borrow.Author.Needs.{needs}
 use mathlib.Core.Path.{_≡_, sym, ap, _∙_}
 use mathlib.Core.Bool.{Bool, true}
 use Rattle.stored.specs.Choice.{pick}
-use Rattle.judging.specs.Walk.{stepIn, mattersOf, seenOf}
+use Rattle.judging.specs.machinery.Walk.{stepIn, mattersOf, seenOf}
 use Rattle.judging.specs.declared.walk.Walk.{Walk}
 use Rattle.judging.proofs.Asking.{asked-present, asked-network}
 use Rattle.judging.proofs.applying.step_asked.Statement.{statement}

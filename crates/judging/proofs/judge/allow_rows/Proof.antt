@@ -3,7 +3,7 @@ use borrow.Author.Needs.{needs}
 use mathlib.Core.Path.{_∙_}
 use mathlib.Core.Bool.{false}
 use Rattle.judging.specs.Requests.{columns}
-use Rattle.judging.specs.Walk.{valueIn}
+use Rattle.judging.specs.machinery.Walk.{valueIn}
 use Rattle.judging.specs.Judging.{rowsOf}
 use Rattle.judging.proofs.ByColumn.{allowing}
 use Rattle.judging.proofs.judge.allow_rows.Statement.{statement}

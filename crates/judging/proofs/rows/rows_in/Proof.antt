@@ -7,7 +7,7 @@ use native.Mathlib.Omega.{arith}
 use lib.ListN.{length}
 use Rattle.stored.specs.Entries.{entriesFrom, entriesOf}
 use Rattle.stored.proofs.Walking.{inside}
-use Rattle.judging.specs.Walk.{runOf, freshWalk, doneOf, valueIn}
+use Rattle.judging.specs.machinery.Walk.{runOf, freshWalk, doneOf, valueIn}
 use Rattle.judging.proofs.Records.{record-has-kind}
 use Rattle.judging.proofs.Walking.{run-on, run-cut, run-strange, run-past, walk-means}
 use Rattle.judging.proofs.rows.rows_in.Statement.{statement}

@@ -1,7 +1,7 @@
 -- An arm for each record, each the clause of the definition; a value is matched only where the answer can still matter.
 use borrow.Author.Needs.{needs}
 use mathlib.Core.Path.{sym, _∙_}
-use Rattle.judging.specs.Walk.{stepOf}
+use Rattle.judging.specs.machinery.Walk.{stepOf}
 use Rattle.judging.proofs.Presence.{present-in}
 use Rattle.judging.proofs.rows.step_walk.Statement.{statement}
 use Rattle.judging.proofs.rows.step_walk.Tie as tie

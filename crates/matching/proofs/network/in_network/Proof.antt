@@ -4,7 +4,7 @@ use Prim.Native.Nat.{ℕ, _<_, _≤_}
 use lib.Dec.{leb}
 use mathlib.Core.Bool.{Bool, true, false, _&&_}
 use borrow.Author.Tests.{lt-leb, le-leb}
-use Rattle.matching.specs.Network.{networkLow, networkHigh}
+use Rattle.matching.specs.machinery.Ranges.{networkLow, networkHigh}
 use Rattle.matching.proofs.Networks.{in-range}
 use borrow.Author.Needs.{needs}
 use Rattle.matching.proofs.network.in_network.Statement.{statement}

@@ -2,7 +2,7 @@
 use Prim.Native.Nat.{_-_, _^_, _<_}
 use native.Mathlib.Omega.{arith}
 use lib.Pow.{pow-pos}
-use Rattle.matching.specs.Network.{networkHigh}
+use Rattle.matching.specs.machinery.Ranges.{networkHigh}
 use Rattle.matching.proofs.Networks.{high-fits}
 use borrow.Author.Needs.{needs}
 use Rattle.matching.proofs.network.network_high.Statement.{statement}

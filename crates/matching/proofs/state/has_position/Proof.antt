@@ -5,7 +5,7 @@ use native.Mathlib.Nat.{zero-div}
 use native.Mathlib.Omega.{arith}
 use lib.ListN.{length, List·getD-eq-default}
 use lib.Dec.{eqb}
-use Rattle.matching.specs.Rows.{rowBit, wordBit}
+use Rattle.matching.specs.machinery.Rows.{rowBit, wordBit}
 use borrow.Author.Needs.{needs}
 use Rattle.matching.proofs.state.has_position.Statement.{statement}
 use Rattle.matching.proofs.state.has_position.Tie as tie

@@ -6,7 +6,7 @@ use native.Mathlib.Omega.{arith}
 use lib.ListN.{getD, set}
 use lib.Bits.{bitOr}
 use lib.Pow.{pow-lt}
-use Rattle.matching.specs.Rows.{markRow}
+use Rattle.matching.specs.machinery.Rows.{markRow}
 use borrow.Author.Needs.{needs}
 use Rattle.matching.proofs.state.mark_in.Statement.{statement}
 use Rattle.matching.proofs.state.mark_in.Tie as tie

@@ -5,7 +5,7 @@ use Prim.Native.Nat.{ℕ, _+_, _-_, _<_, _≤_}
 use native.Mathlib.Omega.{arith}
 use borrow.Author.Tests.{ltb-true, ltb-false}
 use lib.ListN.{length, getD, take, drop}
-use Rattle.matching.specs.Rows.{rowBit, cellRow}
+use Rattle.matching.specs.machinery.Rows.{rowBit, cellRow}
 use Rattle.matching.proofs.Parts.{part-more, part-done, part-past}
 use Rattle.matching.proofs.Sweeps.{sweep, sweep-row, sweep-next}
 use borrow.Author.Needs.{needs}

@@ -1,6 +1,6 @@
 -- The tests are those of the definition.
 use borrow.Author.Tests.{le-ltb, lt-ltb}
-use Rattle.matching.specs.Cursor.{nextOf}
+use Rattle.matching.specs.machinery.Cursor.{nextOf}
 use borrow.Author.Needs.{needs}
 use Rattle.matching.proofs.symbols.next_symbol.Statement.{statement}
 use Rattle.matching.proofs.symbols.next_symbol.Tie as tie

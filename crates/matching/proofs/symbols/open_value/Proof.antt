@@ -1,5 +1,5 @@
 -- Each field is what its function ensures.
-use Rattle.matching.specs.Cursor.{openOf}
+use Rattle.matching.specs.machinery.Cursor.{openOf}
 use borrow.Author.Needs.{needs}
 use Rattle.matching.proofs.symbols.open_value.Statement.{statement}
 use Rattle.matching.proofs.symbols.open_value.Tie as tie

@@ -3,7 +3,7 @@ use mathlib.Core.Path.{_≡_, sym, ap, _∙_}
 use Prim.Native.Nat.{_+_}
 use native.Mathlib.Omega.{arith}
 use lib.ListN.{length}
-use Rattle.matching.specs.Cursor.{codesLeft}
+use Rattle.matching.specs.machinery.Cursor.{codesLeft}
 use Rattle.matching.proofs.Cursors.{next-more, next-done, left-fits}
 use borrow.Author.Needs.{needs}
 use Rattle.matching.proofs.value.count_symbols.Statement.{statement}

@@ -10,8 +10,8 @@ use lib.ListN.{length, drop, getD, length-drop, drop-of-length-le}
 use lib.Seq.{drop-cons, take-all}
 use lib.Dec.{leb}
 use borrow.Author.Tests.{leb-true, leb-false}
-use Rattle.matching.specs.Codes.{takesSymbol}
-use Rattle.matching.specs.Cursor.{nextOf, codesLeft, leftMatches}
+use Rattle.matching.specs.machinery.Codes.{takesSymbol}
+use Rattle.matching.specs.machinery.Cursor.{nextOf, codesLeft, leftMatches}
 use Rattle.matching.specs.Matches.{isEmpty}
 use Rattle.matching.specs.declared.symbols.Next.the-variants as N
 use Rattle.matching.proofs.Cursors.{next-more}

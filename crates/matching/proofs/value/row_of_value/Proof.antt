@@ -5,8 +5,8 @@ use mathlib.Core.Bool.{false}
 use Prim.Native.Nat.{ℕ, _+_, _≤_}
 use native.Mathlib.Omega.{arith}
 use lib.ListN.{length, replicate}
-use Rattle.matching.specs.Cursor.{codesLeft}
-use Rattle.matching.specs.Rows.{rowBit, cellRow}
+use Rattle.matching.specs.machinery.Cursor.{codesLeft}
+use Rattle.matching.specs.machinery.Rows.{rowBit, cellRow}
 use Rattle.matching.proofs.Cursors.{next-more, next-done}
 use Rattle.matching.proofs.Sweeps.{sweep, sweep-few, sweep-next}
 use borrow.Author.Needs.{needs}

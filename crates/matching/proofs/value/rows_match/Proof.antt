@@ -6,8 +6,8 @@ use native.Mathlib.Omega.{arith}
 use native.Mathlib.Numerals.{add-one}
 use lib.ListN.{length, drop, getD, drop-of-length-le}
 use lib.Seq.{drop-cons}
-use Rattle.matching.specs.Cursor.{codesLeft}
-use Rattle.matching.specs.Rows.{rowBit, rowAfter, rowOf, stepRow}
+use Rattle.matching.specs.machinery.Cursor.{codesLeft}
+use Rattle.matching.specs.machinery.Rows.{rowBit, rowAfter, rowOf, stepRow}
 use Rattle.matching.proofs.Sweeps.{first-cells, step-cells}
 use Rattle.matching.proofs.SymbolsLeft.{rows-decide}
 use borrow.Author.Needs.{needs}

@@ -5,7 +5,7 @@ use Prim.Native.Nat.{ℕ, _<_}
 use native.Mathlib.Omega.{arith}
 use lib.ListN
 use Rattle.matching.specs.declared.symbols.Cursor.{Cursor}
-use Rattle.matching.specs.Cursor.{codesLeft, leftMatches}
+use Rattle.matching.specs.machinery.Cursor.{codesLeft, leftMatches}
 use Rattle.matching.proofs.Cursors.{opened-few}
 use Rattle.matching.proofs.SymbolsLeft.{opened-matches}
 use Rattle.matching.proofs.value.value_matches.Statement.{statement}

@@ -4,8 +4,8 @@ use Prim.Native.Nat.{_-_, _≤_}
 use native.Mathlib.Omega.{arith}
 use borrow.Author.Tests.{ltb-false}
 use lib.ListN.{length}
-use Rattle.matching.specs.Rows.{pack}
-use Rattle.matching.specs.Words.{starBit, starRow}
+use Rattle.matching.specs.machinery.Rows.{pack}
+use Rattle.matching.specs.machinery.Words.{starBit, starRow}
 use Rattle.matching.proofs.Rows.{upto}
 use Rattle.matching.proofs.MarkedRows.{none-marked, mark-more, all-marked, star-outside}
 use borrow.Author.Needs.{needs}

@@ -5,8 +5,8 @@ use mathlib.Core.List.{List}
 use Prim.Native.Nat.{ℕ, _+_, _-_, _*_, _≤_}
 use native.Mathlib.Omega.{arith}
 use lib.ListN.{set}
-use Rattle.matching.specs.Rows.{wordBit, rowBit, packWord, pack}
-use Rattle.matching.specs.Words.{setStep, movedUp, wordsRow}
+use Rattle.matching.specs.machinery.Rows.{wordBit, rowBit, packWord, pack}
+use Rattle.matching.specs.machinery.Words.{setStep, movedUp, wordsRow}
 use Rattle.matching.proofs.Rows.{upto}
 use Rattle.matching.proofs.MarkedRows.{none-marked, lay-more, word-laid, row-carry, new-carry}
 use borrow.Author.Needs.{needs}

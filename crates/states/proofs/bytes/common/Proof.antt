@@ -3,7 +3,7 @@ use mathlib.Core.Path.{_∙_, ap₂}
 use mathlib.Core.Bool.{_&&_}
 use lib.Bits.{bitAnd}
 use lib.ListN.{getD}
-use Rattle.matching.specs.Rows.{rowBit}
+use Rattle.matching.specs.machinery.Rows.{rowBit}
 use Rattle.states.proofs.BitsOfWords.{bit-and}
 use Rattle.states.proofs.ByteSets.{two-words, low-bit, high-bit}
 use borrow.Author.Needs.{needs}

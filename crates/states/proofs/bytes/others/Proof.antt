@@ -1,7 +1,7 @@
 -- Each of the two words is turned.
 use mathlib.Core.Path.{_∙_, ap}
 use mathlib.Core.Bool.{not}
-use Rattle.matching.specs.Rows.{rowBit}
+use Rattle.matching.specs.machinery.Rows.{rowBit}
 use Rattle.states.proofs.ByteSets.{two-words, low-bit, high-bit}
 use borrow.Author.Needs.{needs}
 use Rattle.states.proofs.bytes.others.Statement.{statement}

@@ -8,7 +8,7 @@ use lib.Dec.{eqb}
 use lib.ListN.{getD, set}
 use lib.Pow.{pow-lt}
 use borrow.Author.Tests.{ne-eqb}
-use Rattle.states.specs.Bytes.{Adds}
+use Rattle.states.specs.machinery.Bytes.{Adds}
 use Rattle.states.proofs.ByteSets.{adds-byte, adds-none}
 use borrow.Author.Needs.{needs}
 use Rattle.states.proofs.bytes.with_byte.Statement.{statement}

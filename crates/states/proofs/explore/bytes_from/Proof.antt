@@ -3,7 +3,7 @@ use Prim.Native.Nat.{ℕ, _+_, _*_, _/_}
 use mathlib.Core.Path.{sym, subst}
 use mathlib.Core.List.{List}
 use native.Mathlib.Omega.{arith}
-use Rattle.states.specs.Bytes.{Names, ToTry}
+use Rattle.states.specs.machinery.Bytes.{Names, ToTry}
 use Rattle.states.proofs.TakenRows.{pair-at}
 use Rattle.states.proofs.Trying.{enough}
 use borrow.Author.Needs.{needs}

@@ -5,9 +5,9 @@ use mathlib.Core.List.{List}
 use mathlib.Core.Logic.{inl, inr}
 use native.Mathlib.Omega.{arith}
 use lib.ListN.{length, take, drop}
-use Rattle.matching.specs.Rows.{firstRow}
-use Rattle.states.specs.Rows.{codesAt, codesLaid, rowAt}
-use Rattle.states.specs.Search.{Partial, Untouched}
+use Rattle.matching.specs.machinery.Rows.{firstRow}
+use Rattle.states.specs.machinery.Rows.{codesAt, codesLaid, rowAt}
+use Rattle.states.specs.machinery.Search.{Partial, Untouched}
 use Rattle.states.proofs.RowsInWords.{row-laid, behind-kept, untouched-same, untouched-both, untouched-first}
 use Rattle.states.proofs.Stepping.{search-begins, search-goes-on, search-ends, first-length}
 use Rattle.states.proofs.TakenRows.{searchable-stays}

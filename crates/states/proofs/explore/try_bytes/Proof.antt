@@ -5,8 +5,8 @@ use mathlib.Core.List.{List}
 use mathlib.Core.Logic.{inl, inr}
 use native.Mathlib.Omega.{arith}
 use lib.ListN.{length, take, drop}
-use Rattle.states.specs.Rows.{codesAt, codesLaid, rowAt}
-use Rattle.states.specs.Search.{Enough, Partial, Untouched}
+use Rattle.states.specs.machinery.Rows.{codesAt, codesLaid, rowAt}
+use Rattle.states.specs.machinery.Search.{Enough, Partial, Untouched}
 use Rattle.states.proofs.RowsInWords.{untouched-same, untouched-both}
 use Rattle.states.proofs.Stepping.{search-later, search-goes-on, search-ends}
 use Rattle.states.proofs.TakenRows.{searchable-stays}

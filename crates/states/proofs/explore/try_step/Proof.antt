@@ -6,9 +6,9 @@ use mathlib.Core.Logic.{inl, inr}
 use native.Mathlib.Numerals.{add-one}
 use native.Mathlib.Omega.{arith}
 use lib.ListN.{length, take, drop, set}
-use Rattle.matching.specs.Words.{wordsRow}
-use Rattle.states.specs.Rows.{mostStates, keysAt, codesAt, codesLaid, rowAt, starsLaid}
-use Rattle.states.specs.Search.{stepFrom, Partial, Untouched}
+use Rattle.matching.specs.machinery.Words.{wordsRow}
+use Rattle.states.specs.machinery.Rows.{mostStates, keysAt, codesAt, codesLaid, rowAt, starsLaid}
+use Rattle.states.specs.machinery.Search.{stepFrom, Partial, Untouched}
 use Rattle.states.proofs.RowsInWords.{withRow, with-other-row, with-kept, with-untouched, untouched-same}
 use Rattle.states.proofs.Stepping.{step-known, step-over, step-new, step-length}
 use Rattle.states.proofs.TakenRows.{step-leads}

@@ -2,7 +2,7 @@
 use Prim.Native.Nat.{_-_, _/_}
 use native.Mathlib.Omega.{arith}
 use lib.Dec.{eqb}
-use Rattle.matching.specs.Codes.{takesByte}
+use Rattle.matching.specs.machinery.Codes.{takesByte}
 use Rattle.matching.specs.Symbols.{foldByte}
 use Rattle.states.proofs.CodeBytes.{names-none, names-exact, names-folded}
 use Rattle.states.proofs.ByteSets.{adds-none, adds-as}

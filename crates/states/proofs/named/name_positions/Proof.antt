@@ -2,7 +2,7 @@
 use Prim.Native.Nat.{ℕ, _-_, _*_, _≤_}
 use mathlib.Core.Path.{subst}
 use native.Mathlib.Omega.{arith}
-use Rattle.states.specs.Bytes.{Names}
+use Rattle.states.specs.machinery.Bytes.{Names}
 use Rattle.states.proofs.NamedBytes.{names-more}
 use borrow.Author.Needs.{needs}
 use Rattle.states.proofs.named.name_positions.Statement.{statement}

@@ -6,8 +6,8 @@ use native.Mathlib.Omega.{arith}
 use lib.Arith.{lt-of-le-ne}
 use lib.Count.{trailingZeros, trailing-le}
 use lib.ListN.{getD}
-use Rattle.states.specs.Rows.{codesAt}
-use Rattle.states.specs.Bytes.{NamesWord}
+use Rattle.states.specs.machinery.Rows.{codesAt}
+use Rattle.states.specs.machinery.Bytes.{NamesWord}
 use Rattle.states.proofs.BitsOfWords.{left-none, left-zeros, left-few, left-next}
 use Rattle.states.proofs.NamedBytes.{names-begin, names-next, names-end}
 use borrow.Author.Needs.{needs}

@@ -3,7 +3,7 @@ use Prim.Native.Nat.{ℕ, _-_, _≤_, _<_}
 use mathlib.Core.Path.{_≡_, subst}
 use mathlib.Core.Bool.{Bool}
 use native.Mathlib.Omega.{arith}
-use Rattle.states.specs.Rows.{rowAt, Tells}
+use Rattle.states.specs.machinery.Rows.{rowAt, Tells}
 use Rattle.states.proofs.Below.{below-next}
 use borrow.Author.Needs.{needs}
 use Rattle.states.proofs.rows.find_row.Statement.{statement}

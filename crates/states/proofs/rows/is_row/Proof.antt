@@ -4,7 +4,7 @@ use mathlib.Core.Path.{_≡_, refl, sym, ap, _∙_}
 use mathlib.Core.List.{List}
 use native.Mathlib.Omega.{arith}
 use lib.ListN.{length, getD, take}
-use Rattle.states.specs.Rows.{rowAt}
+use Rattle.states.specs.machinery.Rows.{rowAt}
 use Rattle.states.proofs.RowsInWords.{prefix-next, prefix-all, row-length, row-word}
 use borrow.Author.Needs.{needs}
 use Rattle.states.proofs.rows.is_row.Statement.{statement}

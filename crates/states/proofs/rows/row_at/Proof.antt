@@ -4,7 +4,7 @@ use lib.Seq.{take-set-le, getD-set-same}
 use Prim.Native.Nat.{_+_, _-_, _*_, _≤_}
 use mathlib.Core.Path.{_≡_, refl, sym, _∙_}
 use native.Mathlib.Omega.{arith}
-use Rattle.states.specs.Rows.{rowAt}
+use Rattle.states.specs.machinery.Rows.{rowAt}
 use Rattle.states.proofs.RowsInWords.{prefix-next, prefix-all, row-length, row-word}
 use borrow.Author.Needs.{needs}
 use Rattle.states.proofs.rows.row_at.Statement.{statement}

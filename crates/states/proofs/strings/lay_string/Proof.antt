@@ -5,9 +5,9 @@ use mathlib.Core.List.{List, _∷_}
 use native.Mathlib.Omega.{arith}
 use lib.ListN.{length, set, length-set}
 use lib.Seq.{sets}
-use Rattle.matching.specs.Rows.{forward}
-use Rattle.states.specs.Rows.{keyAt}
-use Rattle.states.specs.Search.{chain, stringOf}
+use Rattle.matching.specs.machinery.Rows.{forward}
+use Rattle.states.specs.machinery.Rows.{keyAt}
+use Rattle.states.specs.machinery.Search.{chain, stringOf}
 use Rattle.states.proofs.StringsOfRows.{chain-short, chain-parent, length-forward, sets-last}
 use borrow.Author.Needs.{needs}
 use Rattle.states.proofs.strings.lay_string.Statement.{statement}

@@ -3,7 +3,7 @@ use Prim.Native.Nat.{ℕ, _+_, _≤_, _<_}
 use mathlib.Core.Path.{_≡_, ap}
 use native.Mathlib.Omega.{arith}
 use lib.ListN.{length}
-use Rattle.states.specs.Search.{chain}
+use Rattle.states.specs.machinery.Search.{chain}
 use Rattle.states.proofs.StringsOfRows.{chain-parent, length-forward}
 use borrow.Author.Needs.{needs}
 use Rattle.states.proofs.strings.string_length.Statement.{statement}

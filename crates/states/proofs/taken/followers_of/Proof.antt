@@ -1,8 +1,8 @@
 -- The set has the followers below the byte at hand: that is the invariant.
 use Prim.Native.Nat.{_-_, _≤_}
 use native.Mathlib.Omega.{arith}
-use Rattle.states.specs.Rows.{takenLaid}
-use Rattle.states.specs.Taken.{FollowersBelow}
+use Rattle.states.specs.machinery.Rows.{takenLaid}
+use Rattle.states.specs.machinery.Taken.{FollowersBelow}
 use Rattle.states.proofs.Followers.{followers-begin, followers-end}
 use borrow.Author.Needs.{needs}
 use Rattle.states.proofs.taken.followers_of.Statement.{statement}

@@ -3,7 +3,7 @@ use Prim.Native.Nat.{_+_, _-_, _≤_}
 use mathlib.Core.Path.{_≡_, refl, _∙_}
 use native.Mathlib.Omega.{arith}
 use lib.ListN.{length, getD}
-use Rattle.states.specs.Rows.{codesAt, codesLaid}
+use Rattle.states.specs.machinery.Rows.{codesAt, codesLaid}
 use Rattle.states.proofs.TakenRows.{withRows, cleared-length, RowsUpto, rows-begin, rows-start, rows-next, rows-end, rows-whole, code-read}
 use borrow.Author.Needs.{needs}
 use Rattle.states.proofs.taken.lay_rows.Statement.{statement}

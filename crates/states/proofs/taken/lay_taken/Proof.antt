@@ -4,9 +4,9 @@ use mathlib.Core.Path.{ap, _∙_, subst}
 use mathlib.Core.List.{List}
 use native.Mathlib.Omega.{arith}
 use lib.ListN.{take, drop}
-use Rattle.matching.specs.Words.{starRow}
-use Rattle.states.specs.Rows.{codesAt}
-use Rattle.states.specs.Taken.{FollowersSet}
+use Rattle.matching.specs.machinery.Words.{starRow}
+use Rattle.states.specs.machinery.Rows.{codesAt}
+use Rattle.states.specs.machinery.Taken.{FollowersSet}
 use Rattle.states.proofs.TakenRows.{taken-laid}
 use borrow.Author.Needs.{needs}
 use Rattle.states.proofs.taken.lay_taken.Statement.{statement}

@@ -7,7 +7,7 @@ use native.Mathlib.Omega.{arith}
 use lib.Dec.{ltb}
 use lib.ListN.{length}
 use borrow.Author.Tests.{lt-ltb, le-ltb}
-use Rattle.states.specs.Taken.{Marks}
+use Rattle.states.specs.machinery.Taken.{Marks}
 use Rattle.states.proofs.MarkedBytes.{marks-none, marks-as, marks-next}
 use borrow.Author.Needs.{needs}
 use Rattle.states.proofs.taken.mark_all.Statement.{statement}

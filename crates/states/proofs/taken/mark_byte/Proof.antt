@@ -5,7 +5,7 @@ use Prim.Native.Nat.{ℕ}
 use native.Mathlib.Omega.{arith}
 use lib.Dec.{eqb}
 use borrow.Author.Tests.{ne-eqb}
-use Rattle.states.specs.Taken.{Marks}
+use Rattle.states.specs.machinery.Taken.{Marks}
 use Rattle.states.proofs.MarkedBytes.{marks-none, marks-byte}
 use borrow.Author.Needs.{needs}
 use Rattle.states.proofs.taken.mark_byte.Statement.{statement}

@@ -5,7 +5,7 @@ use mathlib.Core.Bool.{true}
 use native.Mathlib.Omega.{arith}
 use lib.Dec.{eqb}
 use Rattle.matching.specs.Symbols.{foldByte}
-use Rattle.states.specs.Taken.{takes}
+use Rattle.states.specs.machinery.Taken.{takes}
 use Rattle.states.proofs.MarkedBytes.{marks-none, marks-as}
 use Rattle.states.proofs.CodeBytes.{names-none, names-exact, names-folded, takes-all, takes-named}
 use borrow.Author.Needs.{needs}

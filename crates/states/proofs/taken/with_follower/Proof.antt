@@ -2,7 +2,7 @@
 use Prim.Native.Nat.{_+_, _-_}
 use mathlib.Core.Path.{_≡_, sym, _∙_, subst}
 use mathlib.Core.Bool.{Bool}
-use Rattle.states.specs.Rows.{rowAt, takenLaid, Tells}
+use Rattle.states.specs.machinery.Rows.{rowAt, takenLaid, Tells}
 use Rattle.states.proofs.Followers.{followers-more, followers-same}
 use borrow.Author.Needs.{needs}
 use Rattle.states.proofs.taken.with_follower.Statement.{statement}

@@ -8,8 +8,8 @@ use lib.Bits.{bitAnd}
 use lib.Dec.{eqb, ltb}
 use lib.ListN.{length, getD, take, drop}
 use Rattle.stored.specs.Choice.{pick}
-use Rattle.judging.specs.Rows.{bitOf}
-use Rattle.states.specs.Rows.{printsAt}
+use Rattle.judging.specs.machinery.Rows.{bitOf}
+use Rattle.states.specs.machinery.Rows.{printsAt}
 use Rattle.comparing.specs.declared.kinds.Sides.{Sides}
 use Rattle.comparing.specs.declared.kinds.Step.{Step}
 

@@ -3,7 +3,7 @@ use Prim.Native.Nat.{ℕ, _+_, _^_, min}
 use mathlib.Core.List.{List, [], _∷_}
 use lib.Dec.{ltb}
 use Rattle.stored.specs.Choice.{pick}
-use Rattle.matching.specs.Network.{networkLow, networkHigh}
+use Rattle.matching.specs.machinery.Ranges.{networkLow, networkHigh}
 
 -- the least end of a network above an address, 2 ^ 32 if there is none: its low address, or one past its high address
 abbrev pub above : ℕ → ℕ → ℕ

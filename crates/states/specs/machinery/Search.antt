@@ -8,9 +8,9 @@ use mathlib.Core.Logic.{_⊎_}
 use lib.Dec.{eqb}
 use lib.ListN.{length, getD, drop}
 use Rattle.stored.specs.Choice.{pick}
-use Rattle.matching.specs.Rows.{rowBit, firstRow, stepRow, forward}
-use Rattle.states.specs.Rows.{printsAt, mostStates, keysAt, codesAt, rowAt, keyAt, codesLaid, IsByte}
-use Rattle.states.specs.Taken.{Takes}
+use Rattle.matching.specs.machinery.Rows.{rowBit, firstRow, stepRow, forward}
+use Rattle.states.specs.machinery.Rows.{printsAt, mostStates, keysAt, codesAt, rowAt, keyAt, codesLaid, IsByte}
+use Rattle.states.specs.machinery.Taken.{Takes}
 
 -- a workspace that has room for a search, and the codes of so many positions
 pub record Searchable (positions : ℕ) (words : List ℕ) : Type 0 where

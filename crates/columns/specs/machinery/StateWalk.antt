@@ -5,9 +5,9 @@ use mathlib.Core.List.{List, [], _∷_}
 use lib.ListN.{length}
 use Rattle.stored.specs.Choice.{pick}
 use Rattle.stored.specs.Entries.{Entry}
-use Rattle.matching.specs.Rows.{rowBit}
+use Rattle.matching.specs.machinery.Rows.{rowBit}
 use Rattle.judging.specs.declared.walk.Walk.{Walk}
-use Rattle.judging.specs.Walk.{beganOf, mattersOf, seenOf, elementBegun, conditionBegun}
+use Rattle.judging.specs.machinery.Walk.{beganOf, mattersOf, seenOf, elementBegun, conditionBegun}
 
 unfoldable pub stateStep : ℕ → List ℕ → Walk → ℕ → Entry → Walk
 stateStep column row w p (Entry.start n) = w

@@ -6,7 +6,7 @@ use lib.ListN.{getD, set}
 use lib.Bits.{bitOr}
 use lib.Dec.{eqb}
 use Rattle.matching.specs.Symbols.{pick}
-use Rattle.matching.specs.Codes.{startCode, starCode, oneCode, takesByte}
+use Rattle.matching.specs.machinery.Codes.{startCode, starCode, oneCode, takesByte}
 
 -- the positions of a row: eight words of 64 bits
 abbrev pub positions : ℕ

@@ -4,9 +4,9 @@ use mathlib.Core.List.{List, [], _∷_, _++_}
 use lib.Dec.{eqb, ltb}
 use Rattle.stored.specs.Choice.{pick, some}
 use Rattle.judging.specs.Requests.{Value, absent, text, number}
-use Rattle.states.specs.Rows.{mostStates}
-use Rattle.states.specs.Search.{stringOf}
-use Rattle.columns.specs.Edges.{nextEdge}
+use Rattle.states.specs.machinery.Rows.{mostStates}
+use Rattle.states.specs.machinery.Search.{stringOf}
+use Rattle.columns.specs.machinery.Edges.{nextEdge}
 
 -- what shows a footprint, as a number: a row's number or, where a column is absent, 512; in column 7 the address or 2 ^ 32
 abbrev pub textAt : List ℕ → ℕ → Value

@@ -10,7 +10,7 @@ use Rattle.matching.specs.declared.symbols.Next.{Next}
 use Rattle.matching.specs.declared.symbols.Next.the-variants as N
 use Rattle.matching.specs.Symbols.{Symbol, pick, symbolOf, isWild, ignoresCase, sameByte}
 use Rattle.matching.specs.Matches.{matches}
-use Rattle.matching.specs.Codes.{symbolCode}
+use Rattle.matching.specs.machinery.Codes.{symbolCode}
 
 -- how many of the bytes asked for, from a place on, are in the table
 abbrev pub sizeFrom : List ℕ → ℕ → ℕ → ℕ

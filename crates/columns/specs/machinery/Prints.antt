@@ -3,10 +3,10 @@ use mathlib.Core.Path.{_≡_}
 use mathlib.Core.List.{List}
 use Prim.Native.Nat.{ℕ}
 use lib.Seq.{slice}
-use Rattle.matching.specs.Rows.{rowBit, rowOf}
-use Rattle.states.specs.Rows.{codesAt}
-use Rattle.columns.specs.LastPositions.{noPositions, lastPositions}
-use Rattle.columns.specs.Plan.{freshRun, doneRun, runPlan, TextPlans}
+use Rattle.matching.specs.machinery.Rows.{rowBit, rowOf}
+use Rattle.states.specs.machinery.Rows.{codesAt}
+use Rattle.columns.specs.machinery.LastPositions.{noPositions, lastPositions}
+use Rattle.columns.specs.machinery.Plan.{freshRun, doneRun, runPlan, TextPlans}
 use Rattle.columns.specs.declared.plan.Plans.{Plans}
 use Rattle.columns.specs.declared.prints.Prints.{Prints}
 

@@ -16,9 +16,9 @@ use Rattle.stored.specs.declared.items.Item.{Item}
 use Rattle.stored.specs.declared.items.Item.the-variants as I
 use Rattle.judging.specs.Judging.{rowsOf}
 use Rattle.judging.specs.Meaning.{sense}
-use Rattle.states.specs.Rows.{printsAt, codesAt}
+use Rattle.states.specs.machinery.Rows.{printsAt, codesAt}
 use Rattle.columns.specs.Values.{valuesIn, sumOf}
-use Rattle.columns.specs.Edges.{above}
+use Rattle.columns.specs.machinery.Edges.{above}
 use Rattle.columns.specs.declared.plan.Plans.{Plans}
 use Rattle.columns.specs.declared.runs.Run.{Run}
 

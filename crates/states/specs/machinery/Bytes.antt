@@ -5,9 +5,9 @@ use mathlib.Core.Bool.{Bool, true, false, _||_}
 use mathlib.Core.List.{List}
 use mathlib.Core.Logic.{_⊎_}
 use lib.ListN.{getD}
-use Rattle.matching.specs.Codes.{takesByte}
-use Rattle.matching.specs.Rows.{wordBit, rowBit}
-use Rattle.states.specs.Rows.{codesAt, IsByte}
+use Rattle.matching.specs.machinery.Codes.{takesByte}
+use Rattle.matching.specs.machinery.Rows.{wordBit, rowBit}
+use Rattle.states.specs.machinery.Rows.{codesAt, IsByte}
 
 -- the bytes of a set and those of which f holds
 abbrev pub Adds : List ℕ → (ℕ → Bool) → List ℕ → Type 0

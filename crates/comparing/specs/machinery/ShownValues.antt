@@ -9,12 +9,12 @@ use lib.Seq.{sets}
 use Rattle.stored.specs.Choice.{pick}
 use Rattle.stored.specs.Tables.{Statement}
 use Rattle.judging.specs.Requests.{Value, text, isPresent, columns}
-use Rattle.states.specs.Search.{stringOf}
+use Rattle.states.specs.machinery.Search.{stringOf}
 use Rattle.columns.specs.Values.{valuesIn, sumOf}
 use Rattle.comparing.specs.Requests.{Each}
 use Rattle.comparing.specs.Gaps.{FirstOf}
 use Rattle.comparing.specs.Compared.{valueBytes, valueRoom, bytesIn, addressIn, laid, firstLong, shapeOf}
-use Rattle.comparing.specs.Product.{printOf}
+use Rattle.comparing.specs.machinery.Product.{printOf}
 use Rattle.comparing.specs.declared.answers.Shape.{Shape}
 use Rattle.comparing.specs.declared.show.ShownText.{ShownText}
 use Rattle.comparing.specs.declared.show.ShownAddress.{ShownAddress}

@@ -9,7 +9,7 @@ use Rattle.stored.specs.Choice.{pick}
 use Rattle.stored.specs.Tables.{Statement}
 use Rattle.judging.specs.Requests.{Value, absent, columns}
 use Rattle.judging.specs.Meaning.{holds, isAllow, isAllowed}
-use Rattle.judging.specs.Rows.{rowsWord}
+use Rattle.judging.specs.machinery.Rows.{rowsWord}
 use Rattle.comparing.specs.Order.{Before, In, Ascending}
 use Rattle.comparing.specs.Requests.{Admitted}
 use Rattle.comparing.specs.Gaps.{Alike, FirstOf}

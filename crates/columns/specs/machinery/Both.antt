@@ -3,7 +3,8 @@ use Prim.Native.Nat.{ℕ, _≤_}
 use mathlib.Core.Path.{_≡_}
 use mathlib.Core.List.{List}
 use lib.ListN.{length}
-use Rattle.stored.specs.Entries.{entriesOf, Accepted}
+use Rattle.stored.specs.Entries.{entriesOf}
+use Rattle.stored.specs.machinery.Following.{Accepted}
 use Rattle.stored.specs.Tables.{Statement}
 use Rattle.judging.specs.Judging.{rowsOf}
 use Rattle.columns.specs.Values.{valuesIn, sumOf, networksIn}

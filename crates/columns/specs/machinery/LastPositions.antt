@@ -6,7 +6,7 @@ use lib.Bits.{bitAnd}
 use lib.Dec.{eqb, ltb}
 use lib.ListN.{replicate}
 use Rattle.stored.specs.Choice.{pick}
-use Rattle.matching.specs.Rows.{markRow}
+use Rattle.matching.specs.machinery.Rows.{markRow}
 
 -- a row of no position
 abbrev pub noPositions : List ℕ

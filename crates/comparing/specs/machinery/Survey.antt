@@ -9,18 +9,18 @@ use lib.Dec.{eqb, ltb}
 use lib.ListN.{length, take, drop}
 use Rattle.stored.specs.Choice.{pick, some}
 use Rattle.stored.specs.Tables.{Statement}
-use Rattle.matching.specs.Codes.{codesOf}
+use Rattle.matching.specs.machinery.Codes.{codesOf}
 use Rattle.judging.specs.Requests.{Value}
 use Rattle.columns.specs.Values.{valuesIn, sumOf}
 use Rattle.comparing.specs.Columns.{Few, TooMany}
 use Rattle.comparing.specs.Compared.{Crowded, Uncrowded, product, mostKinds}
-pub use Rattle.comparing.specs.Kinds.{printsBetween}
-use Rattle.states.specs.Rows.{printsAt, mostStates}
-use Rattle.comparing.specs.Kinds.{printsIn, Bounded}
-use Rattle.states.specs.Search.{Explored, Exceeded}
-use Rattle.columns.specs.Both.{Narrow, FewNetworks}
-use Rattle.comparing.specs.Product.{Firsts, AllFirsts, printOf, printsFrom}
-use Rattle.comparing.specs.Adding.{textAt, addingRows}
+pub use Rattle.comparing.specs.machinery.Kinds.{printsBetween}
+use Rattle.states.specs.machinery.Rows.{printsAt, mostStates}
+use Rattle.comparing.specs.machinery.Kinds.{printsIn, Bounded}
+use Rattle.states.specs.machinery.Search.{Explored, Exceeded}
+use Rattle.columns.specs.machinery.Both.{Narrow, FewNetworks}
+use Rattle.comparing.specs.machinery.Product.{Firsts, AllFirsts, printOf, printsFrom}
+use Rattle.comparing.specs.machinery.Adding.{textAt, addingRows}
 use Rattle.comparing.specs.declared.survey.Column.{Column}
 use Rattle.comparing.specs.declared.survey.Column.the-variants as C
 use Rattle.comparing.specs.declared.survey.States.{States}

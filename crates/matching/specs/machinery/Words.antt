@@ -4,8 +4,8 @@ use mathlib.Core.List.{List}
 use Prim.Native.Nat.{ℕ, zero, suc, _*_}
 use lib.ListN.{getD}
 use lib.Dec.{eqb, ltb}
-use Rattle.matching.specs.Codes.{starCode, oneCode, takesByte}
-use Rattle.matching.specs.Rows.{rowBit, pack}
+use Rattle.matching.specs.machinery.Codes.{starCode, oneCode, takesByte}
+use Rattle.matching.specs.machinery.Rows.{rowBit, pack}
 
 -- the positions behind a symbol that takes the byte b: `?`, or that byte
 abbrev pub takenBit : List ℕ → ℕ → ℕ → Bool

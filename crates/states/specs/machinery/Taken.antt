@@ -6,10 +6,10 @@ use mathlib.Core.List.{List}
 use lib.Dec.{eqb}
 use lib.Bits.{bitOr}
 use lib.ListN.{length, getD, take, drop, set}
-use Rattle.matching.specs.Codes.{oneCode, takesByte}
-use Rattle.matching.specs.Rows.{rowBit, markRow}
-use Rattle.matching.specs.Words.{takenRow, starRow}
-use Rattle.states.specs.Rows.{printsAt, IsByte, Tells, takenAt, starsAt, followersAt, followersEnd, takenLaid, starsLaid, followersLaid}
+use Rattle.matching.specs.machinery.Codes.{oneCode, takesByte}
+use Rattle.matching.specs.machinery.Rows.{rowBit, markRow}
+use Rattle.matching.specs.machinery.Words.{takenRow, starRow}
+use Rattle.states.specs.machinery.Rows.{printsAt, IsByte, Tells, takenAt, starsAt, followersAt, followersEnd, takenLaid, starsLaid, followersLaid}
 
 -- position p marked in row i
 abbrev pub markedAt : List ℕ → ℕ → ℕ → List ℕ
