@@ -20,6 +20,7 @@ pub mod GapList
 pub mod ShownRequest
 pub mod ShortValues
 pub mod Outcomes
+pub mod FewGaps
 pub mod Means
 pub mod Requests
 pub mod SearchPromises

@@ -47,7 +47,8 @@ crowded-unique rows c d k l = by (leb c d) refl (leb d c) refl
 pub crowded-or-not : (rows : List Statement) (c : ℕ) → Crowded rows c → Uncrowded rows → ⊥
 crowded-or-not rows c k none = few-or-many (valuesIn c rows) (none c (k .low)) (k .many)
 
-counts-length : (first second : List Statement) (column : ℕ) (counts : List ℕ) → CountsFrom first second column counts → column + length counts ≡ columns
+-- there is a count for each of the eight columns
+pub counts-length : (first second : List Statement) (column : ℕ) (counts : List ℕ) → CountsFrom first second column counts → column + length counts ≡ columns
 counts-length first second column [] e = omega arith
 counts-length first second column (n ∷ counts) (here, more) = omega (arith, counts-length first second (suc column) counts more)
 

@@ -34,7 +34,7 @@ in-front (v ∷ values) requests r i = by (in-joined r (map (λ (s : List Value)
     by (inl j) more = let m = in-mapped (λ (s : List Value). v ∷ s) r requests j in (v, m .0, inl refl, m .1, m .2)
     by (inr j) more = let m = more j in (m .0, m .1, inr (m .2), m .3, m .4)
 
-front-in : (values : List Value) (requests : List (List Value)) (v : Value) (s : List Value)
+pub front-in : (values : List Value) (requests : List (List Value)) (v : Value) (s : List Value)
     → In v values → In s requests → In (v ∷ s) (inFront values requests)
 front-in (w ∷ values) requests v s (inl e) j =
     in-left (v ∷ s) (map (λ (r : List Value). w ∷ r) requests) (inFront values requests)

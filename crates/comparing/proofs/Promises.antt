@@ -1,7 +1,7 @@
 -- What comparing promises, in statements that can be read without their proofs. `Compared` and `Shown` are what the two questions may
 -- answer: the number of gaps of two tables, and gap k; `judgement` is what the judge answers. A request has eight columns, and its strings
 -- may be of any length. `AlikeFrom .. 0` says that every statement of both tables holds alike of two requests, column by column.
-use Prim.Native.Nat.{ℕ, _<_}
+use Prim.Native.Nat.{ℕ, _≤_, _<_}
 use mathlib.Core.Path.{_≡_}
 use mathlib.Core.Bool.{true, false}
 use mathlib.Core.List.{List, [], _++_}
@@ -19,7 +19,7 @@ use Rattle.columns.specs.Values.{valuesIn}
 use Rattle.comparing.specs.Order.{Earlier, In}
 use Rattle.comparing.specs.Requests.{IsRequest}
 use Rattle.comparing.specs.Gaps.{footprint, AlikeFrom, Gaps, Counted, IsGap}
-use Rattle.comparing.specs.Compared.{Compared, Shown}
+use Rattle.comparing.specs.Compared.{mostKinds, Compared, Shown}
 use Rattle.comparing.specs.Outcomes.{CountOutcome, orderOfCount, GapOutcome, orderOfGap}
 use Rattle.comparing.specs.Means.{CountMeans, ShownMeans, Said, NotRefused}
 use Rattle.comparing.specs.declared.answers.Counting.{Counting}
@@ -29,6 +29,7 @@ use Rattle.comparing.specs.declared.answers.Showing.{Showing}
 use Rattle.comparing.specs.declared.answers.Showing.the-variants as S
 use Rattle.comparing.proofs.Requests
 use Rattle.comparing.proofs.Means
+use Rattle.comparing.proofs.FewGaps
 use Rattle.comparing.proofs.Outcomes
 use Rattle.comparing.proofs.OneAnswer
 use Rattle.comparing.proofs.SomeAnswer
@@ -50,6 +51,10 @@ counted-means = Means.counted-means
 pub none-means : (room : ℕ) (a b : List ℕ) (n : ℕ) → Compared room a b (C.Gaps n)
     → (n ≡ 0) ↔ ((r : List Value) → IsRequest r → judgement a r ≡ J.Allowed → judgement b r ≡ J.Allowed)
 none-means = Means.none-means
+
+-- There are no more gaps than kinds of request: at most 16,777,216.
+pub few-gaps : (room : ℕ) (a b : List ℕ) (n : ℕ) → Compared room a b (C.Gaps n) → n ≤ mostKinds
+few-gaps = FewGaps.count-low
 
 -- "Asked for gap k (from 0), it shows the first value of each column and its length": the request that is read off the answer and the value
 -- buffer is gap k, and the judge allows it by the first table and not by the second; no value is longer than 512 bytes, the bytes behind a

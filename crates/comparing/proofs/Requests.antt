@@ -31,7 +31,7 @@ use Rattle.comparing.proofs.Judged.{no-faults}
 use Rattle.comparing.proofs.ShownRequest.{needed-bytes, key-bytes, address-number}
 
 -- bytes from 21 to 7E hex are bytes
-in-range-bytes : (s : List ℕ) → inRange s ≡ true → Bytes s
+pub in-range-bytes : (s : List ℕ) → inRange s ≡ true → Bytes s
 in-range-bytes [] e = tt
 in-range-bytes (b ∷ s) e =
     let high = leb-true b 0x7E (both-right (leb 0x21 b) (leb b 0x7E) (both-left (byteInRange b) (inRange s) e)) in
@@ -47,7 +47,8 @@ key-said absent ok = tt
 key-said (text s) ok = in-range-bytes s ok
 key-said (number n) ok = absurd ok
 
-address-said : (v : Value) → AdmitsAddress v → addressIn v < 2 ^ 32
+-- an admitted address has 32 bits
+pub address-said : (v : Value) → AdmitsAddress v → addressIn v < 2 ^ 32
 address-said absent ok = omega arith
 address-said (text s) ok = absurd ok
 address-said (number n) ok = ok
@@ -95,11 +96,11 @@ verdict-refuses true allows n c e = never (cc)
 verdict-refuses false true n c e = never (cc)
 verdict-refuses false false n c e = never (cc)
 
--- and is not refused
-request-taken : (r : List Value) → IsRequest r → NotRefused r
-request-taken r ok t (n, reads) c e =
+-- so what has no faulty column is not refused
+pub sound-taken : (r : List Value) → firstFault 0 r ≡ columns → NotRefused r
+sound-taken r sound t (n, reads) c e =
     verdict-refuses (someDenies r (rowsOf t)) (someAllows r (rowsOf t)) 9 c
-    (request-sound r (rowsOf t) (firstFault 0 r) refl (omega (arith, no-faults 0 r ok)) ∙ table-reads t r n reads ∙ e)
+    (request-sound r (rowsOf t) (firstFault 0 r) refl (omega arith) ∙ table-reads t r n reads ∙ e)
 
 -- `01 00 05` is a table
 empty-table : IsTable (0x01 ∷ 0x00 ∷ 0x05 ∷ [])
@@ -192,6 +193,6 @@ said-request r said taken = subst IsRequest (sym (said .is)) admitted
 
 pub requests-all : (r : List Value) → IsRequest r ↔ (Said r × NotRefused r)
 requests-all r = (
-  λ ok. (request-said r (omega (arith, each-length Admitted 0 r ok)) ok, request-taken r ok),
+  λ ok. (request-said r (omega (arith, each-length Admitted 0 r ok)) ok, sound-taken r (no-faults 0 r ok)),
   λ both. said-request r (both .0) (both .1),
 )

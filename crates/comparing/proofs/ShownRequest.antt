@@ -22,25 +22,6 @@ room s h =
     ∙ ap (λ (n : ℕ). length s + n) (length-replicate (valueRoom - length s) 0)
     ∙ omega arith
 
--- the first value stands in front
-first-value : (s t : List ℕ) → length s ≤ valueRoom → shownBytes (padded s ++ t) 0 (length s) ≡ s
-first-value s t h =
-    ap (take (length s)) (take-at (padded s) t 512 (room s h)) ∙ take-append-seam s (replicate (valueRoom - length s) 0)
-
--- the others stand behind it
-later-value : (s t : List ℕ) (column size : ℕ) → length s ≤ valueRoom
-    → shownBytes (padded s ++ t) (suc column) size ≡ shownBytes t column size
-later-value s t column size h = ap (λ (l : List ℕ). take size (take 512 l)) behind
-  where
-    on : suc column * 512 ≡ 512 + column * 512
-    on = omega arith
-
-    behind : drop (suc column * 512) (padded s ++ t) ≡ drop (column * 512) t
-    behind =
-        ap (λ (n : ℕ). drop n (padded s ++ t)) on
-        ∙ sym (drop-drop (column * 512) 512 (padded s ++ t))
-        ∙ ap (drop (column * 512)) (drop-at (padded s) t 512 (room s h))
-
 -- no value is longer than its room
 abbrev pub AllShort : List Value → Type 0
 AllShort [] = Unit {0}
@@ -56,17 +37,40 @@ all-short column (v ∷ request) size e =
     by-test true t e go = absurd (omega arith)
     by-test false t e go = (ltb-false valueRoom (length (bytesIn v)) t, go e)
 
--- a value is found in its column
+-- no column is longer than its room
+pub column-short : (request : List Value) → AllShort request → (column : ℕ) → length (bytesIn (columnOf request column)) ≤ valueRoom
+column-short [] short column = omega arith
+column-short (v ∷ request) short zero = short .0
+column-short (v ∷ request) short (suc column) = column-short request (short .1) column
+
+-- a value stands in its 512 bytes, with the zeros behind it
+pub stands : (column n : ℕ) (request : List Value) (rest : List ℕ) → column < n → n ≤ length request
+    → ((c : ℕ) → length (bytesIn (columnOf request c)) ≤ valueRoom)
+    → take valueRoom (drop (column * valueRoom) (laid n request ++ rest)) ≡ padded (bytesIn (columnOf request column))
+stands column zero request rest low many short = absurd (omega arith)
+stands column (suc n) [] rest low many short = absurd (omega arith)
+stands zero (suc n) (v ∷ request) rest low many short =
+    rw (append-assoc (padded (bytesIn v)) (laid n request) rest)
+    (take-at (padded (bytesIn v)) (laid n request ++ rest) 512 (room (bytesIn v) (short 0)))
+stands (suc column) (suc n) (v ∷ request) rest low many short =
+    rw (append-assoc (padded (bytesIn v)) (laid n request) rest)
+    (ap (take 512) behind ∙ stands column n request rest (omega arith) (omega arith) (λ c. short (suc c)))
+  where
+    on : suc column * 512 ≡ 512 + column * 512
+    on = omega arith
+
+    behind : drop (suc column * 512) (padded (bytesIn v) ++ (laid n request ++ rest)) ≡ drop (column * 512) (laid n request ++ rest)
+    behind =
+        ap (λ (m : ℕ). drop m (padded (bytesIn v) ++ (laid n request ++ rest))) on
+        ∙ sym (drop-drop (column * 512) 512 (padded (bytesIn v) ++ (laid n request ++ rest)))
+        ∙ ap (drop (column * 512)) (drop-at (padded (bytesIn v)) (laid n request ++ rest) 512 (room (bytesIn v) (short 0)))
+
+-- so it is found in its column
 found : (column n : ℕ) (request : List Value) (rest : List ℕ) → column < n → n ≤ length request → AllShort request
     → shownBytes (laid n request ++ rest) column (length (bytesIn (columnOf request column))) ≡ bytesIn (columnOf request column)
-found column zero request rest low many short = absurd (omega arith)
-found column (suc n) [] rest low many short = absurd (omega arith)
-found zero (suc n) (v ∷ request) rest low many short =
-    rw (append-assoc (padded (bytesIn v)) (laid n request) rest) (first-value (bytesIn v) (laid n request ++ rest) (short .0))
-found (suc column) (suc n) (v ∷ request) rest low many short =
-    rw (append-assoc (padded (bytesIn v)) (laid n request) rest)
-    (later-value (bytesIn v) (laid n request ++ rest) column (length (bytesIn (columnOf request column))) (short .0)
-    ∙ found column n request rest (omega arith) (omega arith) (short .1))
+found column n request rest low many short =
+    ap (take (length (bytesIn (columnOf request column)))) (stands column n request rest low many (column-short request short))
+    ∙ take-append-seam (bytesIn (columnOf request column)) (replicate (valueRoom - length (bytesIn (columnOf request column))) 0)
 
 -- a column is what its bytes, or its number, say
 pub needed-bytes : (v : Value) → AdmitsNeeded v → (s : List ℕ) → s ≡ bytesIn v → text s ≡ v
@@ -119,9 +123,3 @@ laid-length (suc n) [] many short = absurd (omega arith)
 laid-length (suc n) (v ∷ request) many short =
     length-append (padded (bytesIn v)) (laid n request)
     ∙ omega (arith, room (bytesIn v) (short .0), laid-length n request (omega arith) (short .1))
-
--- no column is longer than its room
-pub column-short : (request : List Value) → AllShort request → (column : ℕ) → length (bytesIn (columnOf request column)) ≤ valueRoom
-column-short [] short column = omega arith
-column-short (v ∷ request) short zero = short .0
-column-short (v ∷ request) short (suc column) = column-short request (short .1) column

@@ -31,6 +31,18 @@ flagsOf p = flagOf (p .vpc) 1 + flagOf (p .prefix) 2 + flagOf (p .vpce) 4 + flag
 abbrev pub refusalCode : ℕ → ℕ → ℕ → ℕ
 refusalCode number table place = table * 0x1000000000000 + number * 0x100000000 + place % 0x100000000
 
+-- the place that a refusal's code says
+abbrev pub placeIn : ℕ → ℕ
+placeIn code = code % 2 ^ 32
+
+-- the number for no that it says
+abbrev pub numberIn : ℕ → ℕ
+numberIn code = code / 2 ^ 32 % 2 ^ 16
+
+-- the table that it says: 1 the first, 2 the second, 0 the comparison itself, or judging
+abbrev pub tableIn : ℕ → ℕ
+tableIn code = code / 2 ^ 48
+
 -- 0 NotMentioned, 1 Allowed, 2 DeniedByRule
 abbrev pub judgementCode : Judgement → ℕ
 judgementCode J.Allowed = 1
