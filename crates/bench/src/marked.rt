@@ -112,7 +112,10 @@ fn run_addresses() {
 }
 
 pub(crate) fn run_marked() {
-    io::write_all(1, b"The bench list (docs/RULES.md, 10), and what came out.\n");
+    io::write_all(
+        1,
+        b"The bench list (docs/RULES.md, 10), and what came out.\n",
+    );
     run_values();
     run_addresses();
 }

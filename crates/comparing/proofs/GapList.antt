@@ -24,15 +24,13 @@ use Rattle.comparing.proofs.Members.{in-at, ascending-at}
 use Rattle.comparing.proofs.Judged.{judged-exactly}
 
 module _ (first second : List Statement) where
-  -- "A gap is a kind that the first table allows and the second does not": every request that the first table allows and the second does
-  -- not is alike, column by column, to a listed one.
+  -- Every request that the first table allows and the second does not is alike, column by column, to a listed one.
   pub gaps-complete : (list : List (List Value)) → Gaps first second list
       → (r : List Value) → IsRequest r → isAllowed r first ≡ true → isAllowed r second ≡ false
       → (s : List Value) × In s list × AlikeFrom first second 0 r s
   gaps-complete list g r ok a m = g .complete r ok (record { allowed = a; missed = m })
 
-  -- "Kinds of request are ordered by column 0, then 1, and so on to 7": of two listed gaps the one listed before is the earlier, and they
-  -- are not alike.
+  -- Of two listed gaps the one listed before is the earlier, and they are not alike.
   pub gaps-once : (list : List (List Value)) → Gaps first second list
       → (i j : ℕ) → i < j → j < length list
       → Earlier (getD list i []) (getD list j []) × (AlikeFrom first second 0 (getD list i []) (getD list j []) → ⊥)
@@ -92,8 +90,7 @@ module _ (first second : List Statement) (k : ℕ) (r : List Value) (g : IsGap f
   pub gap-request : IsRequest r
   gap-request = firsts-admitted first second 0 r gap-firsts
 
--- "Asked for gap k (from 0), it shows the first value of each column": the judge, given the request that is gap k, says Allowed by the
--- first table and does not by the second.
+-- The judge, given the request that is gap k, says Allowed by the first table and does not by the second.
 pub gap-shows : (a b : List ℕ) (m n : ℕ) → reading a ≡ A.Accepted m → reading b ≡ A.Accepted n
     → (k : ℕ) (r : List Value) → IsGap (rowsOf a) (rowsOf b) k r
     → (judgement a r ≡ J.Allowed) × (judgement b r ≡ J.Allowed → ⊥)

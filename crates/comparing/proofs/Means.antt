@@ -29,8 +29,8 @@ use Rattle.comparing.proofs.Unique.{firsts-admitted, counted-unique}
 use Rattle.comparing.proofs.Alike.{each-length}
 use Rattle.comparing.proofs.Judged.{judged-exactly}
 use Rattle.comparing.proofs.GapList.{gaps-once, gap-firsts, gap-request, gap-shows, none-judged}
-use Rattle.comparing.proofs.ShownRequest.{AllShort, all-short, shown-request, laid-length, column-short}
-use Rattle.comparing.proofs.ShortValues.{firsts-short}
+use Rattle.comparing.proofs.show.ShownRequest.{AllShort, all-short, shown-request, laid-length, column-short}
+use Rattle.comparing.proofs.show.ShortValues.{firsts-short}
 use Rattle.comparing.proofs.Outcomes.{compared-exactly, shown-exactly}
 
 -- two tables that read, and the number of their gaps

@@ -24,8 +24,8 @@ use Rattle.comparing.specs.declared.answers.Counting.{Counting}
 use Rattle.comparing.specs.declared.answers.Counting.the-variants as C
 use Rattle.comparing.specs.declared.answers.Showing.{Showing}
 use Rattle.comparing.specs.declared.answers.Showing.the-variants as S
-use Rattle.comparing.proofs.Lowest.{first-wide, none-wide, wide-first, none-first}
-use Rattle.comparing.proofs.ShortValues.{firsts-short}
+use Rattle.comparing.proofs.compare.Lowest.{first-wide, none-wide, wide-first, none-first}
+use Rattle.comparing.proofs.show.ShortValues.{firsts-short}
 use Rattle.comparing.proofs.GapList.{gap-firsts}
 use Rattle.comparing.proofs.OneAnswer.{compared-one, shown-one}
 

@@ -29,7 +29,7 @@ use Rattle.comparing.specs.declared.answers.Showing.{Showing}
 use Rattle.comparing.specs.declared.answers.Showing.the-variants as S
 use Rattle.comparing.proofs.Requests
 use Rattle.comparing.proofs.Means
-use Rattle.comparing.proofs.FewGaps
+use Rattle.comparing.proofs.kinds.FewGaps
 use Rattle.comparing.proofs.Outcomes
 use Rattle.comparing.proofs.OneAnswer
 use Rattle.comparing.proofs.SomeAnswer
@@ -41,9 +41,9 @@ use Rattle.comparing.proofs.Deciding
 pub requests-all : (r : List Value) → IsRequest r ↔ (Said r × NotRefused r)
 requests-all = Requests.requests-all
 
--- "A gap is a kind that the first table allows and the second does not. The comparison gives the number of gaps": where it answers n, both
--- byte strings are tables, and there is a list of n requests, in order and no two alike, each allowed by the first table and not by the
--- second in the judge's words, so that every request that the judge allows by the first and not by the second is alike to one of them.
+-- RULES 6.4 and 6.5. Where the comparison answers n, both byte strings are tables, and there is a list of n requests, in order and no two
+-- alike, each allowed by the first table and not by the second in the judge's words, so that every request that the judge allows by the
+-- first and not by the second is alike to one of them.
 pub counted-means : (room : ℕ) (a b : List ℕ) (n : ℕ) → Compared room a b (C.Gaps n) → CountMeans a b n
 counted-means = Means.counted-means
 
@@ -56,16 +56,15 @@ none-means = Means.none-means
 pub few-gaps : (room : ℕ) (a b : List ℕ) (n : ℕ) → Compared room a b (C.Gaps n) → n ≤ mostKinds
 few-gaps = FewGaps.count-low
 
--- "Asked for gap k (from 0), it shows the first value of each column and its length": the request that is read off the answer and the value
--- buffer is gap k, and the judge allows it by the first table and not by the second; no value is longer than 512 bytes, the bytes behind a
--- value are zero, and those from 3,584 on stay as they came.
+-- RULES 6.5. The request that is read off the answer and the value buffer is gap k, and the judge allows it by the first table and not by
+-- the second; no value is longer than 512 bytes, the bytes behind a value are zero, and those from 3,584 on stay as they came.
 pub shown-means : (room : ℕ) (a b : List ℕ) (k : ℕ) (buffer : List ℕ) (shape : Shape) (values : List ℕ)
     → Shown room a b k buffer (S.Shown shape, values) → ShownMeans a b k buffer shape values
 shown-means = Means.shown-means
 
--- "Numbers for no", and "Comparing: 14, first table, second table (the answer says which), 10 by column, 11 by column, 12": for every
--- size of the workspace and every two byte strings, the comparison may answer r exactly when a case of `CountOutcome` says so; each
--- refusal has a case, with its number, table and place, and the number of gaps has the last.
+-- RULES 7.3. For every size of the workspace and every two byte strings, the comparison may answer r exactly when a case of `CountOutcome`
+-- says so: 14, first table, second table, 10 by column, 11 by column, 12, the number of gaps. Each refusal has a case, with its count,
+-- number, table and place.
 pub refused-exactly : (room : ℕ) (a b : List ℕ) (r : Counting) → Compared room a b r ↔ CountOutcome room a b r
 refused-exactly = Outcomes.compared-exactly
 
@@ -74,7 +73,7 @@ pub one-case : (room : ℕ) (a b : List ℕ) (r s : Counting) (x : CountOutcome 
     → (r ≡ s) × (orderOfCount x ≡ orderOfCount y)
 one-case = Outcomes.count-outcome-one
 
--- The same of the question for gap k, for every value buffer too: "12, 13", and a refusal leaves the buffer unchanged.
+-- The same of the question for gap k, for every value buffer too: 13 stands behind 12, and a refusal leaves the buffer unchanged.
 pub refused-exactly-shown : (k : ℕ) (buffer : List ℕ) (room : ℕ) (a b : List ℕ) (r : Showing × List ℕ)
     → Shown room a b k buffer r ↔ GapOutcome room a b k buffer r
 refused-exactly-shown = Outcomes.shown-exactly
@@ -84,14 +83,13 @@ pub one-case-shown : (k : ℕ) (buffer : List ℕ) (room : ℕ) (a b : List ℕ)
     → (r ≡ s) × (orderOfGap x ≡ orderOfGap y)
 one-case-shown = Outcomes.gap-outcome-one
 
--- 15, "a shown value over 512 bytes", is never given.
+-- 15, a shown value over 512 bytes, is never given.
 pub fifteen-never : (k : ℕ) (buffer : List ℕ) (room : ℕ) (a b : List ℕ) (place : ℕ) (values : List ℕ)
     → Shown room a b k buffer (S.Refused 15 0 place, values) → ⊥
 fifteen-never = Outcomes.fifteen-never
 
--- "For each input a public function's contract leaves one possible answer and one possible content of the memory lent to it": any two
--- outcomes that `Compared` permits are equal, and any two that `Shown` permits, the value buffer included. (What the workspace holds is an
--- equation in the contracts.)
+-- Any two outcomes that `Compared` permits are equal, and any two that `Shown` permits, the value buffer included. (What the workspace
+-- holds is an equation in the contracts.)
 pub one-answer : (room : ℕ) (a b : List ℕ) (r s : Counting) → Compared room a b r → Compared room a b s → r ≡ s
 one-answer = OneAnswer.compared-one
 

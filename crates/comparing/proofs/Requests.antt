@@ -28,7 +28,7 @@ use Rattle.comparing.specs.Means.{Said, NotRefused}
 use Rattle.comparing.proofs.Eight.{of-eight}
 use Rattle.comparing.proofs.Alike.{each-length}
 use Rattle.comparing.proofs.Judged.{no-faults}
-use Rattle.comparing.proofs.ShownRequest.{needed-bytes, key-bytes, address-number}
+use Rattle.comparing.proofs.show.ShownRequest.{needed-bytes, key-bytes, address-number}
 
 -- bytes from 21 to 7E hex are bytes
 pub in-range-bytes : (s : List ℕ) → inRange s ≡ true → Bytes s

@@ -14,8 +14,8 @@ use Rattle.states.specs.machinery.Rows.{mostStates, rowAt}
 use Rattle.states.specs.machinery.Search.{Explored, stringOf}
 use Rattle.comparing.specs.Order.{Before}
 use Rattle.comparing.specs.Columns.{States}
-use Rattle.comparing.proofs.AllStates
-use Rattle.comparing.proofs.Exploring
+use Rattle.comparing.proofs.survey.AllStates
+use Rattle.comparing.proofs.survey.Exploring
 
 -- A finished search has as many rows as there are different states among all strings, the empty one included.
 pub states-counted : (vs : List (Reading × List ℕ)) → length (codesOf vs) ≤ mostStates → (words : List ℕ) (n : ℕ)

@@ -28,8 +28,8 @@ use Rattle.comparing.specs.declared.answers.Counting.{Counting}
 use Rattle.comparing.specs.declared.answers.Counting.the-variants as C
 use Rattle.comparing.specs.declared.answers.Showing.{Showing}
 use Rattle.comparing.specs.declared.answers.Showing.the-variants as S
-use Rattle.comparing.proofs.Product.{product-gaps, counts-from}
-use Rattle.comparing.proofs.Lowest.{lowest-first}
+use Rattle.comparing.proofs.kinds.Product.{product-gaps, counts-from}
+use Rattle.comparing.proofs.compare.Lowest.{lowest-first}
 use Rattle.comparing.proofs.some_answer.FewOrMany.{few-else-many, crowded-or-few}
 use Rattle.comparing.proofs.some_answer.EveryColumn.{some-firsts}
 

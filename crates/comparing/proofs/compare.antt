@@ -1,4 +1,5 @@
 -- The laws of the two questions.
+pub mod Lowest
 pub mod BothRead
 pub mod NotWide
 pub mod Narrowing

@@ -1,4 +1,7 @@
 -- The laws of counting kinds.
+pub mod Product
+pub mod Listing
+pub mod FewGaps
 pub mod Sums
 pub mod GapRows
 pub mod Counting

@@ -1,4 +1,8 @@
 -- The laws of surveying the columns.
+pub mod Exploring
+pub mod AllStates
+pub mod NoValues
+pub mod Admitting
 pub mod AddingPrints
 pub mod Gathering
 pub mod EdgeSteps

@@ -28,7 +28,7 @@ pub record CountMeans (a b : List ℕ) (n : ℕ) : Type 0 where
   -- the judge allows each by the first table, and does not by the second
   pub allowed : (r : List Value) → In r list → judgement a r ≡ J.Allowed
   pub missed : (r : List Value) → In r list → judgement b r ≡ J.Allowed → ⊥
-  -- "ordered by column 0, then 1, and so on to 7"
+  -- in order, by column 0, then 1, and so on to 7
   pub order : Ascending Earlier list
   -- no two are alike
   pub apart : (i j : ℕ) → i < j → j < length list → AlikeFrom (rowsOf a) (rowsOf b) 0 (getD list i []) (getD list j []) → ⊥
@@ -48,10 +48,10 @@ pub record ShownMeans (a b : List ℕ) (k : ℕ) (buffer : List ℕ) (shape : Sh
   -- the judge allows it by the first table, and does not by the second
   pub allowed : judgement a (requestShown shape values) ≡ J.Allowed
   pub missed : judgement b (requestShown shape values) ≡ J.Allowed → ⊥
-  -- the lengths are those of its strings, and "no shown value is longer than 512 bytes"
+  -- the lengths are those of its strings, and none is longer than 512 bytes
   pub lengths : shape ≡ shapeOf (requestShown shape values)
   pub short : (column : ℕ) → length (bytesIn (columnOf (requestShown shape values) column)) ≤ valueRoom
-  -- the first 3,584 bytes are its values, "the rest of those 3,584 bytes are zero", and "bytes from 3,584 on stay as they came"
+  -- the first 3,584 bytes are its values, the rest of them zero, and bytes from 3,584 on stay as they came
   pub laidDown : take valueBytes values ≡ laid 7 (requestShown shape values)
   pub kept : drop valueBytes values ≡ drop valueBytes buffer
   pub size : length values ≡ length buffer

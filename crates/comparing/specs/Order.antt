@@ -1,5 +1,5 @@
--- The order of values, "absent first, then shorter, then smaller bytes; addresses ascending", and of requests, "by column 0, then 1,
--- and so on to 7" (RULES 6); and what an ascending list is.
+-- The order of values, absent first, then shorter, then smaller bytes, addresses ascending; and of requests, by column 0, then 1, and so on
+-- to 7 (RULES 6.3, 6.4); and what an ascending list is.
 use Prim.Native.Nat.{ℕ, _<_}
 use mathlib.Core.Path.{_≡_}
 use mathlib.Core.List.{List, [], _∷_}

@@ -1,6 +1,6 @@
--- The cases that a question about two tables can fall in, in the order in which they are tried: 14, first table, second table, 10 by
--- column, 11 by column, 12, then the answer; to the question for a gap that is 13, or its values. Each case says what it is given for, in the
--- words of "Numbers for no", and that none of those before it is. (15 is no case: it is never given.)
+-- The cases that a question about two tables can fall in, in the order in which they are tried (RULES 7.3): 14, first table, second table,
+-- 10 by column, 11 by column, 12, then the answer; to the question for a gap that is 13, or its values. Each case says what it is given
+-- for, and that none of those before it is. (15 is no case: it is never given.)
 use Prim.Native.Nat.{ℕ, _≤_, _<_}
 use mathlib.Core.Path.{_≡_}
 use mathlib.Core.Bool.{true, false}
@@ -49,18 +49,18 @@ pub record WithinColumns (first second : List Statement) (counts : List ℕ) : T
 -- `Short` says that a lent buffer is too short, `no number table place` is a refusal, and `Answer` says what the answer is to two tables
 -- that no refusal up to 12 is given for
 pub data Outcome {R : Type 0} (Short : Type 0) (no : ℕ → ℕ → ℕ → R) (Answer : List Statement → List Statement → R → Type 0) (a b : List ℕ) (r : R) : Type 0 where
-  -- 14, "a lent buffer too short"
+  -- 14: a lent buffer is too short
   short : Short → r ≡ no 14 0 0 → Outcome Short no Answer a b r
   -- the first table is refused as the reader refuses it
   firstTable : (Short → ⊥) → (n place : ℕ) → reading a ≡ A.Refused n place → r ≡ no n 1 place → Outcome Short no Answer a b r
   -- the first is a table, and the second is refused
   secondTable : (Short → ⊥) → IsTable a → (n place : ℕ) → reading b ≡ A.Refused n place → r ≡ no n 2 place → Outcome Short no Answer a b r
-  -- 10, "sum of (length plus 1) over both tables above 512; column 7: over 128 networks"; the lowest such column
+  -- 10: the sum of (length plus 1) over both tables above 512; column 7: over 128 networks; the lowest such column
   wide : Comparable Short a b → (c : ℕ) → Wide (rowsOf a ++ rowsOf b) c → r ≡ no 10 0 c → Outcome Short no Answer a b r
-  -- 11, "over 512 different states among all strings, the empty one included"; the lowest such column
+  -- 11: over 512 different states among all strings, the empty one included; the lowest such column
   crowded : Comparable Short a b → NoneWide (rowsOf a ++ rowsOf b) → (c : ℕ) → Crowded (rowsOf a ++ rowsOf b) c → r ≡ no 11 0 c
       → Outcome Short no Answer a b r
-  -- 12, "product of the eight footprint counts above 16,777,216"
+  -- 12: the product of the eight numbers of footprints above 16,777,216
   manyKinds : Comparable Short a b → (counts : List ℕ) → WithinColumns (rowsOf a) (rowsOf b) counts → mostKinds < product counts → r ≡ no 12 0 0
       → Outcome Short no Answer a b r
   -- the answer
@@ -88,7 +88,7 @@ orderOfCount x = orderOf (λ is. 7) x
 
 -- the answers to the question for gap k, with the value buffer behind them
 pub data GapAnswer (k : ℕ) (buffer : List ℕ) (first second : List Statement) (r : Showing × List ℕ) : Type 0 where
-  -- 13, "k not below the number of gaps"
+  -- 13: k is not below the number of gaps
   behind : (n : ℕ) → Counted first second n → n ≤ k → r ≡ keeps buffer 13 0 0 → GapAnswer k buffer first second r
   -- the values of gap k, laid over the first 3,584 bytes
   shows : (n : ℕ) → Counted first second n → k < n → (request : List Value) → IsGap first second k request

@@ -12,8 +12,7 @@ use Rattle.gaps.specs.Split.{passedAt, firstEnd}
 use Rattle.gaps.specs.Lines.{ascii, decimalOf, dotted, countLine, refusalLine, gapLine}
 use Rattle.comparing.proofs.Promises.{shown-means}
 
--- "It prints `gaps N`, then the first 16 gaps, one a line": the request that is read off an answer for gap k and the value buffer, whose
--- line is printed, is gap k.
+-- RULES 8.2. The request that is read off an answer for gap k and the value buffer, whose line is printed, is gap k.
 pub gap-printed : (words : ℕ) (a b : List ℕ) (k : ℕ) (buffer : List ℕ) (shape : Shape) (values : List ℕ)
     → Shown words a b k buffer (S.Shown shape, values)
     → IsGap (rowsOf a) (rowsOf b) k (requestShown shape values)
@@ -40,7 +39,7 @@ pub full-line :
 unfolding gapLine decimalOf dotted
 full-line = refl
 
--- "Input over 32,768 bytes prints `refused 1 0 32768`."
+-- RULES 8.3. What is printed for input of over 32,768 bytes.
 pub refused-line : refusalLine 1 0 32768 ≡ ascii "refused 1 0 32768\n"
 unfolding refusalLine decimalOf
 refused-line = refl
@@ -49,8 +48,8 @@ pub counted-line : countLine 16777216 ≡ ascii "gaps 16777216\n"
 unfolding countLine decimalOf
 counted-line = refl
 
--- "The first ends with the first record 05 met by walking kinds": a 05 inside a value ends nothing; where the walk meets none, or an
--- unknown kind, or a cut record, all input is the first table.
+-- RULES 8.1. A 05 inside a value ends nothing; where the walk meets none, or an unknown kind, or a cut record, all input is the first
+-- table.
 pub behind-a-value : firstEnd (0x41 ∷ 0x05 ∷ 0x05 ∷ 0x05 ∷ 0x01 ∷ []) ≡ 4
 unfolding firstEnd passedAt
 behind-a-value = refl

@@ -46,13 +46,12 @@ chose-none true allows = (λ e. never (cc), λ e. never (cc))
 chose-none false true = (λ e. never (cc), λ e. never (cc))
 chose-none false false = (λ e. refl, λ e. refl)
 
--- The table first: "Judging: the table, then 9 by column". A table that the reader refuses is refused so to every request.
+-- RULES 7.3, the table first. A table that the reader refuses is refused so to every request.
 pub refused-first : (table : List ℕ) (request : List Value) (number place : ℕ) → reading table ≡ A.Refused number place
     → judgement table request ≡ J.Refused number place
 refused-first table request number place e = sym (table-refused table request number place e)
 
--- "9: request: column 0 to 2 empty, or a byte out of range; place: column". By a table that reads, a request with a faulty column is
--- refused with 9 and its lowest faulty column.
+-- RULES 7.3, 9. By a table that reads, a request with a faulty column is refused with 9 and its lowest faulty column.
 pub refused-request : (table : List ℕ) (request : List Value) (n : ℕ) → reading table ≡ A.Accepted n → firstFault 0 request < columns
     → judgement table request ≡ J.Refused 9 (firstFault 0 request)
 refused-request table request n e fault =
@@ -64,15 +63,15 @@ module _ (table : List ℕ) (request : List Value) (n : ℕ) (reads : reading ta
   judged-by-rows =
       sym (request-sound request (rowsOf table) (firstFault 0 request) refl (omega arith) ∙ table-reads table request n reads)
 
-  -- A request is allowed exactly when some allow statement applies and no deny statement does.
+  -- RULES 5.4. A request is allowed exactly when some allow statement applies and no deny statement does.
   pub allowed-exactly : (judgement table request ≡ J.Allowed) ↔ (isAllowed request (rowsOf table) ≡ true)
   allowed-exactly = rw judged-by-rows (chose-allowed (someDenies request (rowsOf table)) (someAllows request (rowsOf table)))
 
-  -- "DeniedByRule (some deny applies)".
+  -- DeniedByRule exactly when some deny statement applies.
   pub denied-exactly : (judgement table request ≡ J.DeniedByRule) ↔ (someDenies request (rowsOf table) ≡ true)
   denied-exactly = rw judged-by-rows (chose-denied (someDenies request (rowsOf table)) (someAllows request (rowsOf table)))
 
-  -- "NotMentioned (no statement applies)".
+  -- NotMentioned exactly when no statement applies.
   pub not-mentioned-exactly : (judgement table request ≡ J.NotMentioned) ↔ (some (applies request) (rowsOf table) ≡ false)
   not-mentioned-exactly =
       rw (judged-by-rows, some-split (applies request) (λ s. isAllow (s .effect)) (rowsOf table))

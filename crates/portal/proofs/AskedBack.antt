@@ -21,7 +21,7 @@ use Rattle.comparing.specs.declared.answers.Showing.{Showing}
 use Rattle.comparing.specs.declared.answers.Showing.the-variants as S
 use Rattle.comparing.proofs.Promises.{shown-means, one-answer-shown}
 use Rattle.comparing.proofs.Eight.{of-eight}
-use Rattle.comparing.proofs.ShownRequest.{needed-bytes, key-bytes, address-number}
+use Rattle.comparing.proofs.show.ShownRequest.{needed-bytes, key-bytes, address-number}
 use Rattle.comparing.proofs.Requests.{in-range-bytes}
 use Rattle.comparing.proofs.Unique.{gaps-unique}
 use Rattle.comparing.proofs.GapList.{gaps-once}

@@ -14,7 +14,7 @@ use Rattle.stored.proofs.Choosing.{both-left, both-right}
 use Rattle.judging.specs.Requests.{Value, absent, text, number, columnOf}
 use Rattle.comparing.specs.Requests.{AdmitsNeeded, AdmitsOptional, AdmitsAddress, Admitted, Each, IsRequest}
 use Rattle.comparing.specs.Compared.{valueBytes, valueRoom, bytesIn, padded, laid}
-use Rattle.comparing.proofs.ShownRequest.{stands}
+use Rattle.comparing.proofs.show.ShownRequest.{stands}
 use Rattle.portal.specs.Asked.{beforeZero, shownString}
 
 -- nothing stands before the first of some zeros

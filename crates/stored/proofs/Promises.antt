@@ -32,9 +32,8 @@ use Rattle.stored.proofs.RoundTrip
 use Rattle.stored.proofs.SameRefusal
 use Rattle.stored.proofs.FormReads
 
--- "An accepted item adds its record behind the last and changes no other byte. The round trip is for a writer started fresh and one
--- buffer that nothing else writes": entries accepted one after the other by a fresh writer, the table at its end, read back as the
--- same entries (`AllFit`: addresses have 32 bits).
+-- RULES 3.4. Entries accepted one after the other by a fresh writer, the table at its end, read back as the same entries (`AllFit`:
+-- addresses have 32 bits).
 pub read-write : (es : List Entry) (buffer : List ℕ) (last : Writer) (left : List ℕ)
     → Writes freshWriter buffer es last left → AllFit es → isEnded (last .state .phase) ≡ true
     → (reading (take (last .at) left) ≡ A.Accepted (last .state .rows)) × (entriesOf (take (last .at) left) ≡ es)
@@ -45,14 +44,12 @@ pub end-ends : (es : List Entry) (buffer : List ℕ) (last : Writer) (left : Lis
     → Writes freshWriter buffer (es ++ (end ∷ [])) last left → isEnded (last .state .phase) ≡ true
 end-ends es buffer last left = RoundTrip.ends es freshWriter buffer last left
 
--- "A table is 01, the announced number of statements, 05, and nothing after": a table that reads is the records of its entries, one
--- behind the other, and nothing else.
+-- RULES 2.2. A table that reads is the records of its entries, one behind the other, and nothing else.
 pub accepted-whole : (table : List ℕ) (n : ℕ) → Bytes table → reading table ≡ A.Accepted n → encode (entriesOf table) ≡ table
 accepted-whole = RoundTrip.accepted-whole
 
--- "A statement is 02, then principal, action, resource in that order, each 03 with one value or more, then 0 to 4 conditions, each 04 with
--- one value or more. A statement holds at most 64 values and networks together": a table that reads as one of n statements has n, at most
--- 32, and each is such a statement.
+-- RULES 2.3. A table that reads as one of n statements has n, at most 32, and each has principal, action and resource in this order, each
+-- with one value or more, 0 to 4 conditions, each with one value or more, and at most 64 values and networks together.
 pub three-elements : (table : List ℕ) (n : ℕ) → reading table ≡ A.Accepted n
     → (length (rowsOf table) ≡ n) × (n ≤ 32) × ((s : Statement) → In s (rowsOf table) → WellFormed s)
 three-elements table n e = (
@@ -61,8 +58,8 @@ three-elements table n e = (
   Statements.well-formed table n e,
 )
 
--- "1 to 4 go with keys 0 to 3 and values, 5 and 6 with key 4 and networks", and what 6, 7 and 8 refuse stands in no table that reads: its
--- elements list texts of 1 to 128 bytes, a principal is `*` alone or has neither `*` nor `?`, and its conditions list what their key holds.
+-- RULES 2.4 to 2.6. What 6, 7 and 8 refuse stands in no table that reads: its elements list texts of 1 to 128 bytes, a principal is `*`
+-- alone or has neither `*` nor `?`, and its conditions list what their key holds.
 pub sound-values : (table : List ℕ) (n : ℕ) → reading table ≡ A.Accepted n → (s : Statement) → In s (rowsOf table) → SoundStatement s
 sound-values = SoundValues.sound
 
@@ -96,12 +93,12 @@ pub form-reads : (rows : List Statement) → length rows ≤ 32 → ((s : Statem
     → (reading (encode (entriesFor rows)) ≡ A.Accepted (length rows)) × (rowsOf (encode (entriesFor rows)) ≡ rows)
 form-reads = FormReads.form-reads
 
--- A refusal of the reader has a number from 1 to 8 and a place of at most 16,384.
+-- RULES 7.1. A refusal of the reader has a number from 1 to 8 and a place of at most 16,384.
 pub refused-where : (table : List ℕ) (number place : ℕ) → reading table ≡ A.Refused number place
     → (0 < number) × (number ≤ 8) × (place ≤ 16384)
 refused-where = Numbers.refused-where
 
--- 1 is given for a "table over 16,384 bytes", at 16,384.
+-- 1 is given for a table over 16,384 bytes, at 16,384.
 pub refused-long : (table : List ℕ) → 16384 < length table → reading table ≡ A.Refused 1 16384
 refused-long = Steps.too-long
 
@@ -112,8 +109,8 @@ refused-short table number place short e =
     let r = Numbers.refused-inside table number place short e in
     (r .low, r .high, r .inside, r .at-record)
 
--- "The writer takes items one at a time and refuses an item as the reader would refuse its record at that point, then 1, then 14": a
--- writer's refusal is 4 to 8 at the bytes written so far, 1 at 16,384, or 14 at 0. (An item has no unknown code, and no record is cut.)
+-- RULES 7.2. A writer's refusal is 4 to 8 at the bytes written so far, 1 at 16,384, or 14 at 0. (An item has no unknown code, and no record
+-- is cut.)
 pub writer-numbers : (w : Writer) (item : Item) (bytes : List ℕ) (room number place : ℕ) → writing w item bytes room ≡ W.Refused number place
     → ((4 ≤ number) × (number ≤ 8) × (place ≡ w .at)) ⊎ (((number ≡ 1) × (place ≡ 16384)) ⊎ ((number ≡ 14) × (place ≡ 0)))
 writer-numbers = Numbers.writer-numbers
@@ -133,8 +130,8 @@ pub writer-as-reader : (es : List Entry) (buffer : List ℕ) (w : Writer) (left 
     ↔ (reading (encode es ++ (recordOf (itemOf e) (bytesOf e) ++ rest)) ≡ A.Refused number (w .at))
 writer-as-reader = SameRefusal.writer-as-reader
 
--- 6 is given "to the writer also" for "a value of no bytes or over 128", which has no record: it is refused with the number that its kind
--- alone decides there, `dueOf`, and with 6 where that is none.
+-- 6 is given to the writer also for a value of no bytes or over 128, which has no record: it is refused with the number that its kind alone
+-- decides there, `dueOf`, and with 6 where that is none.
 pub writer-no-record : (w : Writer) (bytes : List ℕ) (room : ℕ) → (length bytes ≡ 0) ⊎ (128 < length bytes)
     → writing w I.Value bytes room
     ≡ W.Refused (pick (eqb (dueOf (w .state) (K.Value (length bytes))) 0) 6 (dueOf (w .state) (K.Value (length bytes)))) (w .at)

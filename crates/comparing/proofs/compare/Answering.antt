@@ -24,7 +24,7 @@ use Rattle.comparing.specs.declared.answers.Showing.the-variants as S
 use Rattle.comparing.specs.declared.kinds.Sides.{Sides}
 use Rattle.comparing.specs.declared.survey.AllColumns.{AllColumns}
 use Rattle.comparing.proofs.show.AlongPath.{gap-request}
-use Rattle.comparing.proofs.Product.{counts-from}
+use Rattle.comparing.proofs.kinds.Product.{counts-from}
 use Rattle.comparing.proofs.kinds.Counting as counting
 
 module _ {R : Type 0} (no : ℕ → ℕ → ℕ → R) (Yes : List Statement → List Statement → R → Type 0) (first second : List Statement) (r : R) where

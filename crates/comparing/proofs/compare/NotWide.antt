@@ -14,7 +14,7 @@ use Rattle.columns.specs.Values.{valuesIn, sumOf, networksIn}
 use Rattle.comparing.specs.Columns.{isWide}
 use Rattle.comparing.specs.Compared.{firstWide}
 use Rattle.comparing.specs.machinery.Survey.{Surveyable}
-use Rattle.comparing.proofs.Lowest.{lowest-first}
+use Rattle.comparing.proofs.compare.Lowest.{lowest-first}
 
 pub not-wide : (rows : List Statement) (words : List ℕ) → columns ≤ firstWide rows → 8192 ≤ length words → Surveyable rows words
 not-wide rows words none room =

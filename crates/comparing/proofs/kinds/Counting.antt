@@ -23,7 +23,7 @@ use Rattle.comparing.specs.machinery.Product.{AllFirsts, inFront, produc
 use Rattle.comparing.specs.declared.kinds.Sides.{Sides}
 use Rattle.comparing.proofs.Members.{keep-joined, keep-same, keep-mapped, mapped-at}
 use Rattle.comparing.proofs.Alike.{holdsFrom, applies-from}
-use Rattle.comparing.proofs.Product.{product-length, firsts-length, product-gaps}
+use Rattle.comparing.proofs.kinds.Product.{product-length, firsts-length, product-gaps}
 use Rattle.comparing.proofs.kinds.GapRows.{onlyFirstBy, gap-rows}
 use Rattle.comparing.proofs.kinds.Sums.{steps-low, left-low}
 

@@ -14,7 +14,7 @@ use Rattle.comparing.specs.machinery.Product.{AllFirsts, printOf, prints
 use Rattle.comparing.specs.machinery.ShownValues.{FirstWith, printsOf, RequestWith}
 use Rattle.comparing.specs.declared.kinds.Sides.{Sides}
 use Rattle.comparing.proofs.Members.{in-at, mapped-at}
-use Rattle.comparing.proofs.Product.{firsts-length}
+use Rattle.comparing.proofs.kinds.Product.{firsts-length}
 use Rattle.comparing.proofs.kinds.Counting as counting
 
 along-path : (first second : List Statement) (sides : Sides) (column : ℕ) (lists : List (List Value)) (rows k : ℕ)

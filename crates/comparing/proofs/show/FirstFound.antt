@@ -32,13 +32,13 @@ use Rattle.comparing.specs.Compared.{bytesIn}
 use Rattle.comparing.specs.machinery.Product.{printOf}
 use Rattle.comparing.specs.machinery.ShownValues.{FirstWith, StartsAt, FoundState, LaidValue, Lays, LaysString, NoneBelow}
 use Rattle.comparing.specs.declared.show.ShownText.{ShownText}
-use Rattle.comparing.proofs.Admitting.{needed, is-needed, optional, is-optional}
-use Rattle.comparing.proofs.AllStates.{empty-alone, states-many}
+use Rattle.comparing.proofs.survey.Admitting.{needed, is-needed, optional, is-optional}
+use Rattle.comparing.proofs.survey.AllStates.{empty-alone, states-many}
 use Rattle.comparing.proofs.Deciding.{state-decides}
 use Rattle.comparing.proofs.survey.EdgeSteps.{alike-between}
-use Rattle.comparing.proofs.Exploring.{reached, string-reaches, string-behind}
+use Rattle.comparing.proofs.survey.Exploring.{reached, string-reaches, string-behind}
 use Rattle.comparing.proofs.survey.Gathering.{alike-printed, printed-alike}
-use Rattle.comparing.proofs.NoValues.{texts-alike}
+use Rattle.comparing.proofs.survey.NoValues.{texts-alike}
 use Rattle.comparing.proofs.OneAnswer.{few-or-many}
 use Rattle.comparing.proofs.Order.{Compares, before-total}
 use Rattle.comparing.proofs.Ranks.{ranged}

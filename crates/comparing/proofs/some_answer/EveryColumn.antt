@@ -26,7 +26,7 @@ use Rattle.comparing.specs.machinery.Product.{Firsts, AllFirsts}
 use Rattle.comparing.proofs.Members.{in-mapped, mapped-in, ascending-mapped}
 use Rattle.comparing.proofs.Ranks.{ranged, in-range, ranged-append, ranged-forward, ranged-backward}
 use Rattle.comparing.proofs.Deciding.{state-decides}
-use Rattle.comparing.proofs.Admitting.{needed, is-needed, optional, is-optional}
+use Rattle.comparing.proofs.survey.Admitting.{needed, is-needed, optional, is-optional}
 use Rattle.comparing.proofs.some_answer.AllStrings.{numbers, in-numbers, numbers-in, numbers-ascending, Sooner, allStrings, in-all-strings, all-strings-in, all-strings-ascending}
 use Rattle.comparing.proofs.some_answer.FewOrMany.{withByte, state-behind}
 use Rattle.comparing.proofs.some_answer.FirstValues.{Shorter, AllShorter, firsts-short}

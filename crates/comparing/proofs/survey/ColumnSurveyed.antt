@@ -15,7 +15,7 @@ use Rattle.columns.proofs.Widths.{codes-sum}
 use Rattle.comparing.specs.Columns.{Few, TooMany}
 use Rattle.comparing.specs.machinery.Survey.{HasStates, FoundStates, Gathered}
 use Rattle.comparing.specs.declared.survey.States.{States}
-use Rattle.comparing.proofs.AllStates.{states-few, states-many}
+use Rattle.comparing.proofs.survey.AllStates.{states-few, states-many}
 
 module _ (first second : List Statement) (column : ℕ) (before after : List ℕ) (r : States) (f : FoundStates first second column before after r)
     (narrow : Narrow (first ++ second) column) where

@@ -19,7 +19,7 @@ use Rattle.comparing.specs.Requests.{Admitted}
 use Rattle.comparing.specs.Gaps.{footprint, Alike, FirstOf}
 use Rattle.comparing.specs.machinery.Product.{Firsts, printOf}
 use Rattle.comparing.specs.machinery.Adding.{adding}
-use Rattle.comparing.proofs.Listing.{in-more, ascending-more, map-same, some-true, some-false}
+use Rattle.comparing.proofs.kinds.Listing.{in-more, ascending-more, map-same, some-true, some-false}
 use Rattle.comparing.proofs.Members.{in-left, in-right, in-mapped, mapped-in}
 
 -- equal sets are equal words

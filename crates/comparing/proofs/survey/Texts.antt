@@ -25,10 +25,10 @@ use Rattle.comparing.specs.Requests.{Admitted, AdmitsNeeded}
 use Rattle.comparing.specs.Gaps.{Alike}
 use Rattle.comparing.specs.machinery.Product.{Firsts, printOf}
 use Rattle.comparing.specs.machinery.Adding.{textAt, adding, addingRows}
-use Rattle.comparing.proofs.Admitting.{needed, is-needed, optional, is-optional}
+use Rattle.comparing.proofs.survey.Admitting.{needed, is-needed, optional, is-optional}
 use Rattle.comparing.proofs.survey.Gathering.{Upto, Next, none-yet, printed-all, gathered-firsts, adding-next, adding-some, adding-few}
-use Rattle.comparing.proofs.Exploring.{reached, string-reaches, strings-ascend, string-behind}
-use Rattle.comparing.proofs.AllStates.{empty-alone, two-rows}
+use Rattle.comparing.proofs.survey.Exploring.{reached, string-reaches, strings-ascend, string-behind}
+use Rattle.comparing.proofs.survey.AllStates.{empty-alone, two-rows}
 use Rattle.comparing.proofs.Deciding.{state-decides}
 
 -- What is found in a column of strings: its first values in order, the words of their footprints, as many as fit; each is shown by a row

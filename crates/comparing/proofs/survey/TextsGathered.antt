@@ -18,7 +18,7 @@ use Rattle.comparing.specs.machinery.Adding.{textAt, addingRows}
 use Rattle.comparing.specs.machinery.Survey.{HasRoom, HasStates, printsBetween, printAt, addPrint, Added, RowsAdded, Gathered}
 use Rattle.comparing.proofs.survey.AddingPrints.{prints-none, prints-length}
 use Rattle.comparing.proofs.survey.StatesKept.{states-kept}
-use Rattle.comparing.proofs.NoValues.{no-values, texts-alike, firsts-none}
+use Rattle.comparing.proofs.survey.NoValues.{no-values, texts-alike, firsts-none}
 use Rattle.comparing.proofs.survey.Gathering.{alike-printed}
 use Rattle.comparing.proofs.survey.Texts.{TextsFound, gather-optional, gather-needed}
 

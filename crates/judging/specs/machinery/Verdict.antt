@@ -3,7 +3,6 @@ use Prim.Native.Nat.{ℕ}
 use lib.Bits.{bitAnd}
 use lib.Dec.{eqb}
 use Rattle.stored.specs.Choice.{pick}
-pub use Rattle.stored.specs.Tables.{rowsOf}
 use Rattle.judging.specs.declared.judge.Judgement.{Judgement}
 use Rattle.judging.specs.declared.judge.Judgement.the-variants as J
 

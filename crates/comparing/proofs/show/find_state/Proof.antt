@@ -9,7 +9,7 @@ use Rattle.judging.specs.Judging.{rowsOf}
 use Rattle.states.specs.machinery.Search.{stringOf}
 use Rattle.columns.specs.Values.{valuesIn}
 use Rattle.comparing.specs.machinery.Product.{printOf}
-use Rattle.comparing.proofs.Exploring.{string-reaches}
+use Rattle.comparing.proofs.survey.Exploring.{string-reaches}
 use Rattle.comparing.proofs.show.FirstFound.{none-next}
 use borrow.Author.Needs.{needs}
 use Rattle.comparing.proofs.show.find_state.Statement.{statement}

@@ -14,7 +14,7 @@ use Rattle.columns.proofs.PlansLaid.{texts-fit}
 use Rattle.columns.proofs.Widths.{sum-both}
 use Rattle.comparing.specs.machinery.ShownValues.{LaidValue}
 use Rattle.comparing.proofs.show.FirstFound.{codes-few, has-string, explored-few, starts-needed, starts-optional, any-found, string-needed, string-behind-absence, absence-found, lays-value}
-use Rattle.comparing.proofs.NoValues.{no-values}
+use Rattle.comparing.proofs.survey.NoValues.{no-values}
 use Rattle.comparing.proofs.survey.StatesKept.{states-kept}
 use borrow.Author.Needs.{needs}
 use Rattle.comparing.proofs.show.show_text.Statement.{statement}

@@ -20,7 +20,7 @@ use Rattle.comparing.specs.machinery.Adding.{addingRows}
 use Rattle.comparing.specs.machinery.Survey.{printsBetween, printAt}
 use Rattle.comparing.proofs.survey.AddingPrints.{row-added}
 use Rattle.comparing.proofs.survey.StatesKept.{row-stays}
-use Rattle.comparing.proofs.Exploring.{string-reaches}
+use Rattle.comparing.proofs.survey.Exploring.{string-reaches}
 use Rattle.comparing.proofs.survey.gather_rows.Statement.{statement}
 use Rattle.comparing.proofs.survey.gather_rows.Tie as tie
 

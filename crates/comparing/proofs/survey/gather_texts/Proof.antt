@@ -10,7 +10,7 @@ use Rattle.states.specs.machinery.Search.{stringOf}
 use Rattle.states.proofs.Parts.{front-kept}
 use Rattle.columns.specs.Values.{valuesIn}
 use Rattle.columns.proofs.PlansLaid.{prepared, prepared-stays}
-use Rattle.comparing.proofs.Exploring.{string-reaches}
+use Rattle.comparing.proofs.survey.Exploring.{string-reaches}
 use Rattle.comparing.proofs.survey.TextsGathered.{gathered-none, gathered-needed, gathered-optional, states-stay}
 use Rattle.comparing.proofs.survey.gather_texts.Statement.{statement}
 use Rattle.comparing.proofs.survey.gather_texts.Tie as tie

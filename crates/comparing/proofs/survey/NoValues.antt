@@ -16,7 +16,7 @@ use Rattle.comparing.specs.Order.{Before, Smaller, In}
 use Rattle.comparing.specs.Requests.{AdmitsNeeded}
 use Rattle.comparing.specs.Gaps.{Alike, FirstOf}
 use Rattle.comparing.specs.machinery.Product.{Firsts}
-use Rattle.comparing.proofs.Admitting.{needed, is-needed}
+use Rattle.comparing.proofs.survey.Admitting.{needed, is-needed}
 use Rattle.comparing.proofs.Deciding.{state-decides}
 use Rattle.comparing.proofs.Ranks.{ranged}
 

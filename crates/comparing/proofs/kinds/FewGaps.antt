@@ -22,7 +22,7 @@ use Rattle.comparing.specs.declared.answers.Counting.the-variants as C
 use Rattle.comparing.proofs.Order.{earlier-asym}
 use Rattle.comparing.proofs.Unique.{firsts-unique, firsts-admitted}
 use Rattle.comparing.proofs.Pigeonhole.{fits}
-use Rattle.comparing.proofs.Product.{front-in}
+use Rattle.comparing.proofs.kinds.Product.{front-in}
 use Rattle.comparing.proofs.OneAnswer.{counts-length}
 use Rattle.comparing.proofs.Alike.{each-length}
 use Rattle.comparing.proofs.Outcomes.{compared-exactly}

@@ -21,7 +21,7 @@ use Rattle.comparing.specs.Order.{In}
 use Rattle.comparing.specs.Counts.{Apart}
 use Rattle.comparing.specs.Columns.{IsString, States, Few, TooMany}
 use Rattle.comparing.proofs.Ranks.{ranged, in-range, ranged-append}
-use Rattle.comparing.proofs.Exploring.{reached, string-reaches}
+use Rattle.comparing.proofs.survey.Exploring.{reached, string-reaches}
 
 split : (i k : ℕ) → i ≤ k → (k ≡ i) ⊎ (suc i ≤ k)
 split zero zero h = inl refl
