@@ -1,4 +1,4 @@
--- The values and the networks of a column.
+-- The values and the networks of a column (RULES 6.7).
 use Prim.Native.Nat.{ℕ, _+_}
 use mathlib.Core.List.{List, [], _∷_, _++_}
 use lib.Dec.{eqb}

@@ -65,7 +65,9 @@ module _ (room : ℕ) (a b : List ℕ) (n : ℕ) (c : Compared room a b (C.Gaps 
         requests = is-request;
         allowed = λ r i. judged-exactly a (answers .first .0) (answers .first .1) r (is-request r i) .1 (answers .counted .gaps .gap r i .allowed);
         missed = λ r i e. not-both (judged-exactly b (answers .second .0) (answers .second .1) r (is-request r i) .0 e) (answers .counted .gaps .gap r i .missed);
+        firsts = answers .counted .gaps .firsts;
         order = answers .counted .gaps .order;
+        numbered = λ k low. record { list = answers .counted .list; gaps = answers .counted .gaps; low = low; here = refl };
         apart = λ i j up low. gaps-once (rowsOf a) (rowsOf b) (answers .counted .list) (answers .counted .gaps) i j up low .1;
         complete = λ r ok is not. answers .counted .gaps .complete r ok
             (record {

@@ -4,3 +4,4 @@ pub mod BothRead
 pub mod NotWide
 pub mod Narrowing
 pub mod Answering
+pub mod WorkspaceLeft

@@ -1,4 +1,4 @@
--- What refusals 10, 11 and 12 count: the values of a column, the states of all strings, and the footprints.
+-- What refusals 10, 11 and 12 count (RULES 6.7, 7.3): the values of a column, the states of all strings, and the footprints.
 use Prim.Native.Nat.{ℕ, _≤_}
 use mathlib.Core.Path.{_≡_}
 use mathlib.Core.Bool.{Bool, true}

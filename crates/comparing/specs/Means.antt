@@ -10,8 +10,8 @@ use Rattle.judging.specs.Judging.{rowsOf, judgement}
 use Rattle.judging.specs.declared.request.Present.{Present}
 use Rattle.judging.specs.declared.judge.Judgement.the-variants as J
 use Rattle.comparing.specs.Order.{Earlier, In, Ascending}
-use Rattle.comparing.specs.Requests.{IsRequest}
-use Rattle.comparing.specs.Gaps.{AlikeFrom, IsGap}
+use Rattle.comparing.specs.Requests.{Each, IsRequest}
+use Rattle.comparing.specs.Gaps.{AlikeFrom, FirstOf, IsGap}
 use Rattle.comparing.specs.Compared.{valueBytes, valueRoom, bytesIn, laid, shapeOf, requestShown}
 use Rattle.comparing.specs.Outcomes.{IsTable}
 use Rattle.comparing.specs.declared.answers.Shape.{Shape}
@@ -28,8 +28,11 @@ pub record CountMeans (a b : List ℕ) (n : ℕ) : Type 0 where
   -- the judge allows each by the first table, and does not by the second
   pub allowed : (r : List Value) → In r list → judgement a r ≡ J.Allowed
   pub missed : (r : List Value) → In r list → judgement b r ≡ J.Allowed → ⊥
-  -- in order, by column 0, then 1, and so on to 7
+  -- each has in every column the first value with its footprint
+  pub firsts : (r : List Value) → In r list → Each (FirstOf (rowsOf a) (rowsOf b)) 0 r
+  -- in order, by column 0, then 1, and so on to 7; the one at k is gap k
   pub order : Ascending Earlier list
+  pub numbered : (k : ℕ) → k < length list → IsGap (rowsOf a) (rowsOf b) k (getD list k [])
   -- no two are alike
   pub apart : (i j : ℕ) → i < j → j < length list → AlikeFrom (rowsOf a) (rowsOf b) 0 (getD list i []) (getD list j []) → ⊥
   -- every request that the judge allows by the first table and not by the second is alike to one of them

@@ -3,10 +3,10 @@
 -- for, and that none of those before it is. (15 is no case: it is never given.)
 use Prim.Native.Nat.{ℕ, _≤_, _<_}
 use mathlib.Core.Path.{_≡_}
-use mathlib.Core.Bool.{true, false}
+use mathlib.Core.Bool.{Bool, true, false}
 use mathlib.Core.List.{List, _++_}
 use mathlib.Core.Logic.{_⊎_}
-use lib.ListN.{length, drop}
+use lib.ListN.{length, drop, replicate}
 use Rattle.stored.specs.Reading.{reading}
 use Rattle.stored.specs.Tables.{Statement}
 use Rattle.stored.specs.declared.reader.ReadAnswer.the-variants as A
@@ -14,7 +14,7 @@ use Rattle.judging.specs.Requests.{Value, columns}
 use Rattle.judging.specs.Judging.{rowsOf}
 use Rattle.comparing.specs.Gaps.{Counted, IsGap}
 use Rattle.comparing.specs.Columns.{isWide}
-use Rattle.comparing.specs.Compared.{workspaceWords, valueBytes, mostKinds, Crowded, Uncrowded, CountsFrom, product, IsCount, laid, shapeOf, keeps}
+use Rattle.comparing.specs.Compared.{workspaceWords, valueBytes, mostKinds, Crowded, Uncrowded, CountsFrom, product, IsCount, laid, shapeOf, keeps, cleared}
 use Rattle.comparing.specs.declared.answers.Counting.{Counting}
 use Rattle.comparing.specs.declared.answers.Counting.the-variants as C
 use Rattle.comparing.specs.declared.answers.Showing.{Showing}
@@ -106,3 +106,17 @@ orderOfAnswer (shows n counted low request gap e) = 7
 
 abbrev pub orderOfGap : {room : ℕ} {a b : List ℕ} {k : ℕ} {buffer : List ℕ} {r : Showing × List ℕ} → GapOutcome room a b k buffer r → ℕ
 orderOfGap x = orderOf orderOfAnswer x
+
+-- the number of a refusal, 0 where there is none
+abbrev pub numberOfCount : Counting → ℕ
+numberOfCount (C.Gaps n) = 0
+numberOfCount (C.Refused n table place) = n
+
+abbrev pub numberOfGap : Showing → ℕ
+numberOfGap (S.Shown shape) = 0
+numberOfGap (S.Refused n table place) = n
+
+-- what a question leaves in the workspace: as it was on 14, and else all zero
+abbrev pub Left : Bool → ℕ → List ℕ → Type 0
+Left tooShort number words =
+    ((number ≡ 14) × (cleared tooShort words ≡ words)) ⊎ ((number ≡ 14 → ⊥) × (cleared tooShort words ≡ replicate (length words) 0))

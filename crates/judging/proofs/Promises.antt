@@ -63,7 +63,7 @@ module _ (table : List ℕ) (request : List Value) (n : ℕ) (reads : reading ta
   judged-by-rows =
       sym (request-sound request (rowsOf table) (firstFault 0 request) refl (omega arith) ∙ table-reads table request n reads)
 
-  -- RULES 5.4. A request is allowed exactly when some allow statement applies and no deny statement does.
+  -- Demand 2, "a request is allowed exactly when some allow statement applies and no deny statement does" (RULES 5.4).
   pub allowed-exactly : (judgement table request ≡ J.Allowed) ↔ (isAllowed request (rowsOf table) ≡ true)
   allowed-exactly = rw judged-by-rows (chose-allowed (someDenies request (rowsOf table)) (someAllows request (rowsOf table)))
 

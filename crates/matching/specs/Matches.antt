@@ -1,4 +1,4 @@
--- When the symbols of a value match a whole string. How two bytes are compared is a parameter.
+-- When the symbols of a value match a whole string (RULES 4.1). How two bytes are compared is a parameter.
 use mathlib.Core.Bool.{Bool, true, false, _&&_, _||_}
 use mathlib.Core.List.{List, [], _∷_}
 use Prim.Native.Nat.{ℕ}

@@ -1,4 +1,4 @@
--- When an address is in a network, in bits and as a range of addresses.
+-- When an address is in a network (RULES 4.4).
 use mathlib.Core.Bool.{Bool}
 use Prim.Native.Nat.{ℕ, _-_, _/_, _^_}
 use lib.Dec.{eqb}

@@ -1,4 +1,4 @@
--- The state of a string in a column: which prefixes of which values match the whole string.
+-- The state of a string in a column: which prefixes of which values match the whole string (RULES 6.7).
 use mathlib.Core.Bool.{Bool}
 use mathlib.Core.List.{List, [], _∷_, _++_}
 use Prim.Native.Nat.{ℕ, zero, suc}

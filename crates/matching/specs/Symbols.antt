@@ -1,4 +1,4 @@
--- The symbols of a value and how bytes are compared, by the reading of its column or operator.
+-- The symbols of a value and how bytes are compared, by the reading of its column or operator (RULES 4.1 to 4.3).
 use mathlib.Core.Bool.{Bool, true, false, _&&_}
 use mathlib.Core.List.{List, map}
 use Prim.Native.Nat.{ℕ, _+_}

@@ -32,8 +32,9 @@ use Rattle.portal.proofs.AskedBack
 use Rattle.portal.proofs.AskedJudged
 use Rattle.portal.proofs.GapsShown
 
--- Every number that `stamenhum_judge` may return for a table and a request says the judgement: 0, 1 and 2 the three verdicts, and any number
--- from 2 ^ 32 on the refusal whose number and place are read off it. There is no other.
+-- Demand 1 at the door, "an answer or a numbered refusal" (RULES 9.3, 9.4). Every number that `stamenhum_judge` may return for a table and
+-- a request says the judgement: 0, 1 and 2 the three verdicts, and any number from 2 ^ 32 on the refusal whose number and place are read
+-- off it. There is no other.
 module _ (table : List ℕ) (request : List Value) (r : ℕ) (returned : r ≡ judgementCode (judgement table request)) where
   pub judge-read-back : JudgeSays table request r
   judge-read-back = JudgeBack.judge-read-back table request r returned
@@ -58,9 +59,9 @@ pub gap-read-back : (first second : List ℕ) (k : ℕ) (before : List ℕ) (r :
     → Shows first second k before r after → GapSays first second k before r after
 gap-read-back = GapsBack.gap-read-back
 
--- `stamenhum_judge` returns 1 exactly when the byte string is a table, no column of the request is faulty, and some allow statement of the
--- table applies and no deny statement does; of such a table and request it returns 2 exactly when some deny statement applies, and 0 exactly
--- when no statement does.
+-- Demand 2 at the door. `stamenhum_judge` returns 1 exactly when the byte string is a table, no column of the request is faulty, and some
+-- allow statement of the table applies and no deny statement does; of such a table and request it returns 2 exactly when some deny
+-- statement applies, and 0 exactly when no statement does.
 pub door-allowed-exactly : (table : List ℕ) (q : Asked)
     → (judgeReturns table q ≡ 1)
     ↔ (IsTable table × (firstFault 0 (requestAsked q) ≡ columns) × (isAllowed (requestAsked q) (rowsOf table) ≡ true))
@@ -76,14 +77,15 @@ pub door-not-mentioned-exactly : (table : List ℕ) (q : Asked)
     ↔ (IsTable table × (firstFault 0 (requestAsked q) ≡ columns) × (some (applies (requestAsked q)) (rowsOf table) ≡ false))
 door-not-mentioned-exactly = AskedJudged.nought-exactly
 
--- Where `stamenhum_gaps` gives a number of gaps it is 0 exactly when `stamenhum_judge` returns 1 by the second table for everything that a
--- program can ask it and that it returns 1 for by the first.
+-- Demand 3 at the door, "the list is empty exactly when there is none". Where `stamenhum_gaps` gives a number of gaps it is 0 exactly when
+-- `stamenhum_judge` returns 1 by the second table for everything that a program can ask it and that it returns 1 for by the first.
 pub door-none-exactly : (first second : List ℕ) (r : ℕ) → Counts first second r → r < 2 ^ 32
     → (r ≡ 0) ↔ ((q : Asked) → CanBeAsked q → judgeReturns first q ≡ 1 → judgeReturns second q ≡ 1)
 door-none-exactly = AskedJudged.zero-exactly
 
--- Where `stamenhum_gap` shows gap k, what is read off its number and the value buffer alone can be asked of `stamenhum_judge`, which returns 1
--- by the first table and not by the second; and it asks about the request that is gap k.
+-- Demand 3 at the door, "each with a request that shows it". Where `stamenhum_gap` shows gap k, what is read off its number and the value
+-- buffer alone can be asked of `stamenhum_judge`, which returns 1 by the first table and not by the second; and it asks about the request
+-- that is gap k.
 pub door-gap-shows : (first second : List ℕ) (k : ℕ) (before : List ℕ) (r : ℕ) (after : List ℕ) → Shows first second k before r after → 2 ^ 63 ≤ r
     → CanBeAsked (askedBy r after)
     × (judgeReturns first (askedBy r after) ≡ 1)

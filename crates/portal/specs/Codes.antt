@@ -1,4 +1,5 @@
--- Answers as numbers. Below 2 ^ 32 is the answer itself; a refusal is table * 2 ^ 48 + number * 2 ^ 32 + place; a shown gap has bit 63.
+-- Answers as numbers (RULES 9). Below 2 ^ 32 is the answer itself; a refusal is table * 2 ^ 48 + number * 2 ^ 32 + place; a shown gap has
+-- bit 63.
 use Prim.Native.Nat.{ℕ, _+_, _*_, _/_, _%_, _^_}
 use mathlib.Core.Bool.{Bool, true, false}
 use lib.Dec.{eqb}

@@ -32,8 +32,8 @@ use Rattle.stored.proofs.RoundTrip
 use Rattle.stored.proofs.SameRefusal
 use Rattle.stored.proofs.FormReads
 
--- RULES 3.4. Entries accepted one after the other by a fresh writer, the table at its end, read back as the same entries (`AllFit`:
--- addresses have 32 bits).
+-- Demand 2, "a written table reads back as the same items" (RULES 3.4). Entries accepted one after the other by a fresh writer, the table
+-- at its end, read back as the same entries (`AllFit`: addresses have 32 bits).
 pub read-write : (es : List Entry) (buffer : List ℕ) (last : Writer) (left : List ℕ)
     → Writes freshWriter buffer es last left → AllFit es → isEnded (last .state .phase) ≡ true
     → (reading (take (last .at) left) ≡ A.Accepted (last .state .rows)) × (entriesOf (take (last .at) left) ≡ es)
@@ -44,7 +44,8 @@ pub end-ends : (es : List Entry) (buffer : List ℕ) (last : Writer) (left : Lis
     → Writes freshWriter buffer (es ++ (end ∷ [])) last left → isEnded (last .state .phase) ≡ true
 end-ends es buffer last left = RoundTrip.ends es freshWriter buffer last left
 
--- RULES 2.2. A table that reads is the records of its entries, one behind the other, and nothing else.
+-- Demand 1, "a table past a limit is refused whole, never shortened" (RULES 2.2). A table that reads is the records of its entries, one
+-- behind the other, and nothing else.
 pub accepted-whole : (table : List ℕ) (n : ℕ) → Bytes table → reading table ≡ A.Accepted n → encode (entriesOf table) ≡ table
 accepted-whole = RoundTrip.accepted-whole
 
@@ -63,8 +64,8 @@ three-elements table n e = (
 pub sound-values : (table : List ℕ) (n : ℕ) → reading table ≡ A.Accepted n → (s : Statement) → In s (rowsOf table) → SoundStatement s
 sound-values = SoundValues.sound
 
--- A table that reads is `encode` of its entries, and a fresh writer given them writes just those bytes, into any buffer that has room
--- for them, and changes no other byte.
+-- Demand 2, "a table that reads is written again as the same bytes" (RULES 3.4). It is `encode` of its entries, and a fresh writer given
+-- them writes just those bytes, into any buffer that has room for them, and changes no other byte.
 pub write-read : (table : List ℕ) (n : ℕ) → Bytes table → reading table ≡ A.Accepted n
     → (buffer : List ℕ) → length table ≤ length buffer
     → (last : Writer) × (left : List ℕ) × Writes freshWriter buffer (entriesOf table) last left
@@ -93,7 +94,7 @@ pub form-reads : (rows : List Statement) → length rows ≤ 32 → ((s : Statem
     → (reading (encode (entriesFor rows)) ≡ A.Accepted (length rows)) × (rowsOf (encode (entriesFor rows)) ≡ rows)
 form-reads = FormReads.form-reads
 
--- RULES 7.1. A refusal of the reader has a number from 1 to 8 and a place of at most 16,384.
+-- Demand 1, "each refusal says where" (RULES 7.1). A refusal of the reader has a number from 1 to 8 and a place of at most 16,384.
 pub refused-where : (table : List ℕ) (number place : ℕ) → reading table ≡ A.Refused number place
     → (0 < number) × (number ≤ 8) × (place ≤ 16384)
 refused-where = Numbers.refused-where

@@ -1,5 +1,5 @@
--- A table as the list of its records: entries, how they are written down, the walk that finds them in a byte string, and which
--- lists of them the state machine takes.
+-- A table as the list of its records: entries, how they are written down, the walk that finds them in a byte string, and how a writer
+-- takes them one after the other.
 use Prim.Native.Nat.{ℕ, zero, suc, _+_, _-_, _^_, _≤_, _<_}
 use mathlib.Core.Path.{_≡_}
 use mathlib.Core.List.{List, [], _∷_, _++_}

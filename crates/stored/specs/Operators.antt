@@ -1,5 +1,5 @@
 -- The operators by their codes: 1 StringEquals, 2 StringNotEquals, 3 StringLike, 4 StringNotLike, 5 IpAddress, 6 NotIpAddress; the same
--- plus hex 10 is the IfExists form.
+-- plus hex 10 is the IfExists form (RULES 2.4).
 use Prim.Native.Nat.{ℕ, _%_}
 use mathlib.Core.Bool.{Bool}
 use lib.Dec.{eqb, leb}

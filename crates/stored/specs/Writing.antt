@@ -1,5 +1,5 @@
 -- Writing a table: an item is refused as the reader would refuse its record at that point, then 1, then 14; an accepted item adds
--- its record behind the last and changes no other byte.
+-- its record behind the last and changes no other byte (RULES 3, 7.2).
 use Prim.Native.Nat.{ℕ, _+_, _/_, _%_}
 use mathlib.Core.List.{List, [], _∷_}
 use lib.Dec.{ltb}
