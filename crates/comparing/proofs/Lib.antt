@@ -7,6 +7,7 @@ pub mod Alike
 pub mod Judged
 pub mod Ranks
 pub mod Deciding
+pub mod SameBehind
 pub mod Pigeonhole
 pub mod OneAnswer
 pub mod GapList

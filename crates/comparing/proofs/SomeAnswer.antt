@@ -1,27 +1,23 @@
 -- The comparison leaves no input without an answer: each test of its definition is computed or decided, and where no refusal is given the
 -- first values of the columns make the gaps.
 use Prim.Native.Nat.{ℕ, _≤_, _<_}
-use mathlib.Core.Path.{_≡_, refl, sym, ap, _∙_}
+use mathlib.Core.Path.{_≡_, refl}
 use mathlib.Core.Bool.{Bool, true, false, _||_}
 use mathlib.Core.List.{List, [], _++_, map}
 use mathlib.Core.Logic.{_⊎_, inl, inr}
 use native.Mathlib.Omega.{arith}
 use lib.Dec.{ltb}
 use lib.ListN.{length, drop, getD}
-use borrow.Author.Tests.{ltb-true, ltb-false, lt-ltb}
+use borrow.Author.Tests.{ltb-true, ltb-false}
 use Rattle.stored.specs.Choice.{pick}
 use Rattle.stored.specs.Reading.{reading}
 use Rattle.stored.specs.Tables.{Statement}
 use Rattle.stored.specs.declared.reader.ReadAnswer.{ReadAnswer}
 use Rattle.stored.specs.declared.reader.ReadAnswer.the-variants as A
-use Rattle.matching.specs.machinery.Codes.{codesOf}
 use Rattle.judging.specs.Requests.{Value, columns}
 use Rattle.judging.specs.Judging.{rowsOf}
-use Rattle.states.specs.machinery.Rows.{mostStates}
-use Rattle.columns.specs.Values.{valuesIn, sumOf, networksIn}
-use Rattle.columns.proofs.Widths.{codes-sum}
+use Rattle.columns.specs.Values.{valuesIn}
 use Rattle.comparing.specs.Gaps.{Gaps}
-use Rattle.comparing.specs.Columns.{isWide}
 use Rattle.comparing.specs.Compared.{workspaceWords, valueBytes, mostKinds, firstWide, Crowded, Uncrowded, product, FromKinds, FromStates, FromTables, Answered, IsCount, Compared, firstLong, shapeOf, laid, IsShown, IsAnswer, keeps, Shown}
 use Rattle.comparing.specs.machinery.Product.{gapsAmong}
 use Rattle.comparing.specs.declared.answers.Counting.{Counting}
@@ -29,7 +25,8 @@ use Rattle.comparing.specs.declared.answers.Counting.the-variants as C
 use Rattle.comparing.specs.declared.answers.Showing.{Showing}
 use Rattle.comparing.specs.declared.answers.Showing.the-variants as S
 use Rattle.comparing.proofs.kinds.Product.{product-gaps, counts-from}
-use Rattle.comparing.proofs.compare.Lowest.{lowest-first}
+use Rattle.comparing.proofs.compare.Lowest.{none-wide}
+use Rattle.comparing.proofs.compare.NotWide.{narrow-codes}
 use Rattle.comparing.proofs.some_answer.FewOrMany.{few-else-many, crowded-or-few}
 use Rattle.comparing.proofs.some_answer.EveryColumn.{some-firsts}
 
@@ -39,13 +36,6 @@ pick-some : {R : Type 0} (P Q : R → Type 0) (t : Bool) → (t ≡ true → (r 
 pick-some P Q true f g = f refl
 pick-some P Q false f g = g refl
 
--- where 10 is given for no column the codes of every text column are at most 512
-narrow-codes : (rows : List Statement) → columns ≤ firstWide rows → (d : ℕ) → d < 7 → length (codesOf (valuesIn d rows)) ≤ mostStates
-narrow-codes rows none d low =
-    let computed = ap (λ (t : Bool). pick t (ltb 512 (sumOf (valuesIn d rows))) (ltb 128 (length (networksIn rows)))) (lt-ltb d 7 low) in
-    let sum = ltb-false 512 (sumOf (valuesIn d rows)) (sym computed ∙ lowest-first (isWide rows) 0 columns d (omega arith) (omega arith)) in
-    omega (arith, codes-sum (valuesIn d rows))
-
 -- a question about two tables has an answer where each two tables with a list of gaps have one
 module _ {R : Type 0} (no : ℕ → ℕ → ℕ → R) (Yes : List Statement → List Statement → R → Type 0)
     (some : (first second : List Statement) (list : List (List Value)) → Gaps first second list → (r : R) × Yes first second r) where
@@ -53,7 +43,7 @@ module _ {R : Type 0} (no : ℕ → ℕ → ℕ → R) (Yes : List Statement →
     -- 12, or an answer
     some-kinds : Uncrowded (first ++ second) → (r : R) × FromKinds no Yes first second r
     some-kinds few =
-        let (lists, firsts) = some-firsts first second (narrow-codes (first ++ second) none) few in
+        let (lists, firsts) = some-firsts first second (narrow-codes (first ++ second) (none-wide (first ++ second) none)) few in
         let counts = map length lists in
         let (r, is) =
         pick-some (λ r. r ≡ no 12 0 0) (Yes first second) (ltb mostKinds (product counts)) (λ e. (no 12 0 0, refl))
@@ -63,7 +53,7 @@ module _ {R : Type 0} (no : ℕ → ℕ → ℕ → R) (Yes : List Statement →
     -- 11, or what follows it
     some-states : (r : R) × FromStates no Yes first second r
     some-states =
-        by (crowded-or-few (first ++ second) (λ d low. few-else-many (valuesIn d (first ++ second)) (narrow-codes (first ++ second) none d low)) 7 (omega arith))
+        by (crowded-or-few (first ++ second) (λ d low. few-else-many (valuesIn d (first ++ second)) (narrow-codes (first ++ second) (none-wide (first ++ second) none) d low)) 7 (omega arith))
       where
         by : ((c : ℕ) × Crowded (first ++ second) c) ⊎ Uncrowded (first ++ second) → (r : R) × FromStates no Yes first second r
         by (inl (c, crowded)) = (no 11 0 c, inl (c, crowded, refl))

@@ -77,7 +77,7 @@ impl fmt::Display for Gaps<'_> {
     }
 }
 
-/// The gaps one by one. A question may be refused by 15 alone, and the others can still be asked (RULES 7.3).
+/// The gaps one by one. A question could be refused by 15 alone, which never comes (RULES 7.3).
 #[derive(Clone, Debug)]
 pub struct GapsIter<'a> {
     gaps: Gaps<'a>,

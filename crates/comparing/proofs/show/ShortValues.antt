@@ -2,9 +2,9 @@
 -- states of their own, for else the string without what lies between two of them would come before it; and a column that 11 is not
 -- given for has at most 512 states.
 use Prim.Native.Nat.{ℕ, zero, suc, _+_, _≤_, _<_}
-use mathlib.Core.Path.{_≡_, refl, sym, _∙_, ap, subst}
+use mathlib.Core.Path.{_≡_, refl, _∙_, ap, subst}
 use mathlib.Core.Bool.{Bool, true, false}
-use mathlib.Core.List.{List, [], _∷_, _++_, append-assoc, append-nil}
+use mathlib.Core.List.{List, [], _∷_, _++_}
 use mathlib.Core.Logic.{inl, inr}
 use native.Mathlib.Omega.{arith}
 use lib.Dec.{ltb}
@@ -15,13 +15,11 @@ use Rattle.stored.specs.Choice.{pick}
 use Rattle.stored.specs.Values.{inRange}
 use Rattle.stored.specs.Tables.{Statement}
 use Rattle.matching.specs.machinery.Codes.{codesOf}
-use Rattle.matching.specs.machinery.Rows.{positions, stepRow, rowOf}
+use Rattle.matching.specs.machinery.Rows.{positions}
 use Rattle.matching.specs.State.{stateOf}
 use Rattle.matching.specs.declared.reading.Reading.{Reading}
-use Rattle.matching.proofs.States.{row-step}
-use Rattle.matching.proofs.Columns.{same-state, same-row}
 use Rattle.judging.specs.Requests.{Value, absent, text, number, columns}
-use Rattle.columns.specs.Values.{valuesIn, sumOf, networksIn}
+use Rattle.columns.specs.Values.{valuesIn}
 use Rattle.comparing.specs.Order.{In}
 use Rattle.comparing.specs.Requests.{AdmitsNeeded, AdmitsOptional, AdmitsAddress, Admitted, Each}
 use Rattle.comparing.specs.Gaps.{footprint, FirstOf}
@@ -31,8 +29,9 @@ use Rattle.comparing.specs.Compared.{valueRoom, bytesIn, Uncrowded, firs
 use Rattle.comparing.specs.Outcomes.{NoneWide}
 use Rattle.comparing.proofs.Ranks.{Ranged, ranged, in-range, ranged-append}
 use Rattle.comparing.proofs.Deciding.{state-decides}
+use Rattle.comparing.proofs.SameBehind.{state-more}
 use Rattle.comparing.proofs.OneAnswer.{few-or-many}
-use Rattle.comparing.proofs.show.FirstFound.{codes-few}
+use Rattle.comparing.proofs.compare.NotWide.{narrow-codes}
 
 ranged-take : (n : ℕ) (s : List ℕ) → Ranged s → Ranged (take n s)
 ranged-take zero s h = tt
@@ -43,18 +42,6 @@ ranged-drop : (n : ℕ) (s : List ℕ) → Ranged s → Ranged (drop n s)
 ranged-drop zero s h = h
 ranged-drop (suc n) [] h = tt
 ranged-drop (suc n) (b ∷ s) h = ranged-drop n s (h .1)
-
--- strings with one row keep one row when the same bytes follow
-row-more : (codes s u t : List ℕ) → rowOf codes s ≡ rowOf codes u → rowOf codes (s ++ t) ≡ rowOf codes (u ++ t)
-row-more codes s u [] e = ap (rowOf codes) (append-nil s) ∙ e ∙ ap (rowOf codes) (sym (append-nil u))
-row-more codes s u (b ∷ t) e =
-    let more = row-more codes (s ++ (b ∷ [])) (u ++ (b ∷ [])) t (row-step codes s b ∙ ap (stepRow codes b) e ∙ sym (row-step codes u b)) in
-    ap (rowOf codes) (sym (append-assoc s (b ∷ []) t)) ∙ more ∙ ap (rowOf codes) (append-assoc u (b ∷ []) t)
-
--- and so with states
-state-more : (vs : List (Reading × List ℕ)) → length (codesOf vs) ≤ positions → (s u t : List ℕ)
-    → stateOf vs s ≡ stateOf vs u → stateOf vs (s ++ t) ≡ stateOf vs (u ++ t)
-state-more vs few s u t e = same-row vs few (s ++ t) (u ++ t) (row-more (codesOf vs) s u t (same-state vs few s u e))
 
 -- the starts of a string: n of them, from one of a length on
 abbrev startsOf : ℕ → ℕ → List ℕ → List (List ℕ)
@@ -146,12 +133,6 @@ module _ (first second : List Statement) (column : ℕ) (low : column < 7)
       by false e = ltb-false valueRoom (length s) e
 
 module _ (first second : List Statement) (narrow : NoneWide (first ++ second)) (few : Uncrowded (first ++ second)) where
-  narrow-column : (column : ℕ) → column < 7 → sumOf (valuesIn column (first ++ second)) ≤ 512
-  narrow-column column low =
-      ltb-false 512 (sumOf (valuesIn column (first ++ second)))
-      (sym (ap (λ (t : Bool). pick t (ltb 512 (sumOf (valuesIn column (first ++ second)))) (ltb 128 (length (networksIn (first ++ second))))) (lt-ltb column 7 low))
-      ∙ narrow column (omega arith))
-
   first-value-short : (column : ℕ) (v : Value) → FirstOf first second column v → length (bytesIn v) ≤ valueRoom
   first-value-short column absent f = omega arith
   first-value-short column (text s) f = by (ltb column 7) refl
@@ -159,7 +140,7 @@ module _ (first second : List Statement) (narrow : NoneWide (first ++ second)) (
       by : (t : Bool) → ltb column 7 ≡ t → length s ≤ valueRoom
       by true e =
           let low = ltb-true column 7 e in
-          first-short first second column low (codes-few first second column (narrow-column column low)) s f (few column low)
+          first-short first second column low (narrow-codes (first ++ second) narrow column low) s f (few column low)
       by false e = absurd (nowhere (ltb-false column 7 e))
         where
           nowhere : 7 ≤ column → ⊥

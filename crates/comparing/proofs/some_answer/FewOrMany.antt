@@ -2,7 +2,7 @@
 -- string in hand with a byte behind it. Where none of these has a new state the strings in hand show every state, since the state of a
 -- string with a byte behind it follows from the state and the byte.
 use Prim.Native.Nat.{ℕ, zero, suc, _+_, _≤_, _<_}
-use mathlib.Core.Path.{_≡_, refl, sym, ap, subst, _∙_}
+use mathlib.Core.Path.{_≡_, refl, subst, _∙_}
 use mathlib.Core.Bool.{Bool, true, false}
 use mathlib.Core.List.{List, [], _∷_, _++_}
 use mathlib.Core.Logic.{_⊎_, inl, inr}
@@ -14,9 +14,8 @@ use Rattle.stored.specs.Tables.{Statement}
 use Rattle.matching.specs.declared.reading.Reading.{Reading}
 use Rattle.matching.specs.machinery.Codes.{codesOf}
 use Rattle.matching.specs.State.{stateOf}
-use Rattle.matching.specs.machinery.Rows.{stepRow, forward}
-use Rattle.matching.proofs.States.{backward, row-step}
-use Rattle.matching.proofs.Columns.{same-state, same-row}
+use Rattle.matching.specs.machinery.Rows.{forward}
+use Rattle.matching.proofs.States.{backward}
 use Rattle.states.specs.machinery.Rows.{mostStates}
 use Rattle.columns.specs.Values.{valuesIn}
 use Rattle.comparing.specs.Order.{In}
@@ -24,6 +23,7 @@ use Rattle.comparing.specs.Counts.{Apart}
 use Rattle.comparing.specs.Columns.{IsString, States, Few, TooMany}
 use Rattle.comparing.specs.Compared.{Crowded}
 use Rattle.comparing.proofs.Ranks.{Ranged, ranged, in-range, ranged-append, ranged-backward}
+use Rattle.comparing.proofs.SameBehind.{state-more}
 use Rattle.comparing.proofs.some_answer.Pairs.{pairs, in-pairs, pairs-in}
 use Rattle.comparing.proofs.some_answer.AllStrings.{allBytes, all-bytes-in, in-all-bytes}
 use Rattle.comparing.proofs.some_answer.OneOfEach.{Like, New, like-or-new}
@@ -35,9 +35,7 @@ withByte b s = s ++ (b ∷ [])
 module _ (vs : List (Reading × List ℕ)) (narrow : length (codesOf vs) ≤ mostStates) where
   -- strings with the same state have the same state with a byte behind them
   pub state-behind : (b : ℕ) (s u : List ℕ) → stateOf vs s ≡ stateOf vs u → stateOf vs (withByte b s) ≡ stateOf vs (withByte b u)
-  state-behind b s u same =
-      same-row vs narrow (withByte b s) (withByte b u)
-      (row-step (codesOf vs) s b ∙ ap (stepRow (codesOf vs) b) (same-state vs narrow s u same) ∙ sym (row-step (codesOf vs) u b))
+  state-behind b s u = state-more vs narrow s u (b ∷ [])
 
   -- a list of strings, the empty one among them, whose states differ
   record ApartStrings (list : List (List ℕ)) : Type 0 where

@@ -1,4 +1,4 @@
-//! The tests of the oracle, by the sections of RULES.
+//! The tests of the oracle, a file for each part of the rules.
 
 mod bench_list;
 mod build;
