@@ -7,7 +7,7 @@ use native.Mathlib.Omega.{arith}
 use lib.ListN.{length, length-append, length-take, set, take, drop}
 use lib.Seq.{sets, sets-eq, paste, take-length}
 use Rattle.comparing.specs.Compared.{shownBytes}
-use Rattle.gaps.specs.machinery.Laying.{Laid}
+use Rattle.gaps.specs.Lines.{Laid}
 
 sets-behind : (l : List ℕ) (at : ℕ) (xs ys : List ℕ) (p : ℕ) → p ≡ at + length xs → sets (sets l at xs) p ys ≡ sets l at (xs ++ ys)
 sets-behind l at [] ys p e = ap (λ (n : ℕ). sets l n ys) (omega arith)

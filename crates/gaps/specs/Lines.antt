@@ -1,9 +1,12 @@
 -- The lines that the gap program prints, each with its line feed (RULES 8).
-use Prim.Native.Nat.{ℕ, zero, suc, _+_, _/_, _%_}
+use Prim.Native.Nat.{ℕ, zero, suc, _+_, _/_, _%_, _≤_}
 use Prim.Native.Char.{code}
 use Prim.Native.String.{String, [] as empty, _∷_ as _then_}
+use mathlib.Core.Path.{_≡_}
 use mathlib.Core.List.{List, [], _∷_, _++_}
 use lib.Dec.{ltb}
+use lib.ListN.{length}
+use lib.Seq.{sets}
 use Rattle.stored.specs.Choice.{pick}
 use Rattle.judging.specs.Requests.{Value, absent, text, number, columnOf}
 
@@ -67,3 +70,9 @@ keysShown request =
 unfoldable pub gapLine : ℕ → List Value → List ℕ
 gapLine k request =
     decimalOf k ++ neededShown request ++ keysShown request ++ shown (ascii " ip=") (columnOf request 7) ++ ascii "\n"
+
+-- bytes are laid down at a place, and no other byte changes; the answer is the place behind them, at most so many bytes on
+pub record Laid (before : List ℕ) (at : ℕ) (bytes : List ℕ) (most : ℕ) (after : List ℕ) (behind : ℕ) : Type 0 where
+  pub lies : after ≡ sets before at bytes
+  pub ends : behind ≡ at + length bytes
+  pub within : behind ≤ at + most

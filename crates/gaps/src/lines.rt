@@ -6,8 +6,7 @@ ghost use Prim.Native.Nat.{_+_, _≤_, _<_};
 ghost use lib.ListN.{length, take};
 ghost use Rattle.judging.specs.Requests.{keyValue, number, absent};
 ghost use Rattle.stored.specs.Choice.{pick};
-ghost use Rattle.gaps.specs.Lines.{ascii, decimalOf, dotted, countLine, refusalLine, shown, neededShown, keysShown, gapLine};
-ghost use Rattle.gaps.specs.machinery.Laying.{Laid};
+ghost use Rattle.gaps.specs.Lines.{ascii, decimalOf, dotted, countLine, refusalLine, shown, neededShown, keysShown, gapLine, Laid};
 ghost use Rattle.comparing.specs.Compared.{shownBytes, requestShown};
 
 // Bytes that a line has at most.
