@@ -1,0 +1,13 @@
+pub mod Choice
+pub mod Bytes
+pub mod Strings
+pub mod Numbers
+pub mod Words
+pub mod Machine
+pub mod Reading
+pub mod Grammar
+pub mod Pieces
+pub mod Events
+pub mod Trees
+pub mod Tokens
+pub mod Marks
