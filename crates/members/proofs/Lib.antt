@@ -1,0 +1,4 @@
+pub mod OneByte
+pub mod Folded
+pub mod Judging
+pub mod Promises
