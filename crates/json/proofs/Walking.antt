@@ -6,10 +6,10 @@ use mathlib.Core.List.{List, [], _∷_}
 use lib.ListN.{length, getD, drop, length-drop, drop-of-length-le}
 use native.Mathlib.Omega.{arith}
 use Rattle.json.proofs.Choosing.{never, choose, ranged}
-use Rattle.json.specs.Machine.{stepIn, stepOf}
-use Rattle.json.specs.Events.{eventOf}
-use Rattle.json.specs.Tokens.{Token, mark, further, tokensFrom}
-use Rattle.json.specs.Marks.{isNothing}
+use Rattle.json.specs.machinery.Machine.{stepIn, stepOf}
+use Rattle.json.specs.machinery.Events.{eventOf}
+use Rattle.json.specs.machinery.Tokens.{Token, mark, further, tokensFrom}
+use Rattle.json.specs.machinery.Marks.{isNothing}
 use Rattle.json.specs.declared.events.Event.{Event}
 use Rattle.json.specs.declared.events.Event.the-variants as E
 use Rattle.json.specs.declared.machine.Phase.{Phase}

@@ -1,13 +1,7 @@
+-- What a JSON text is, and what it says: classes of bytes, the grammar, the tree of a text's values.
+-- The promises rest on these definitions, and none of these on machinery.
 pub mod Choice
 pub mod Bytes
-pub mod Strings
-pub mod Numbers
-pub mod Words
-pub mod Machine
-pub mod Reading
 pub mod Grammar
-pub mod Pieces
-pub mod Events
 pub mod Trees
-pub mod Tokens
-pub mod Marks
+pub mod machinery

@@ -7,7 +7,7 @@ use crate::machine::Turn;
 use crate::machine::step;
 ghost use mathlib.Core.Path.{_≡_};
 ghost use lib.ListN.{length};
-ghost use Rattle.json.specs.Marks.{isNothing, startMark, tokensAt, metTokens, Ahead};
+ghost use Rattle.json.specs.machinery.Marks.{isNothing, startMark, tokensAt, metTokens, Ahead};
 
 // A place in a text, with the machine's state there.
 pub struct Mark {

@@ -5,7 +5,8 @@ use mathlib.Core.Bool.{true, false}
 use mathlib.Core.List.{List, [], _∷_, map}
 use lib.ListN.{length, getD, drop, drop-of-length-le}
 use borrow.Author.Tests.{eq-eqb, ne-eqb}
-use Rattle.json.specs.Pieces.{pieceOf, contentOf, sameBytes}
+use Rattle.json.specs.Choice.{sameBytes}
+use Rattle.json.specs.machinery.Pieces.{pieceOf, contentOf}
 use Rattle.json.specs.declared.pieces.Piece.the-variants as B
 use Rattle.json.proofs.Contents.{content-closed, content-next}
 use Rattle.json.proofs.Comparing.{left}

@@ -8,12 +8,12 @@ use Rattle.json.specs.Choice.{pick}
 use Rattle.json.specs.Trees.{Shape, Tree, treeOf}
 use Rattle.json.specs.Trees.Shape.{one, several, named}
 use Rattle.json.specs.Trees.Tree.{text, other, list, object, end-list, element, end-object, member}
-use Rattle.json.specs.Tokens.{Token, flat}
-use Rattle.json.specs.Pieces.{sameBytes}
+use Rattle.json.specs.machinery.Tokens.{Token, flat}
+use Rattle.json.specs.Choice.{sameBytes}
 use Rattle.json.specs.declared.events.Event.{Event}
 use Rattle.members.specs.Members.{Verdict, following, versionText, topKind, rowKind, awsKind, operatorKind, keyKind, rowSlot, isSeen, add, isBad, eachText, strings, anyText, thisText, keys, operator, operators, condition, awsWhole, aws, principal, rowValue, rowWhole, row, eachRow, rows, topValue, topWhole, top, document}
 use Rattle.members.specs.Members.Verdict.{fine, refused}
-use Rattle.members.specs.MembersMachine.{at, go, inStrings, behindRow, turnIn, afterTurn, judge}
+use Rattle.members.specs.machinery.Levels.{at, go, inStrings, behindRow, turnIn, afterTurn, judge}
 use Rattle.members.specs.declared.state.Level.{Level}
 use Rattle.members.specs.declared.state.Level.the-variants as L
 use Rattle.members.specs.declared.state.State.{State}

@@ -4,10 +4,10 @@ use mathlib.Core.Path.{_≡_, refl, sym, _∙_, ap}
 use mathlib.Core.List.{List, [], _∷_}
 use lib.ListN.{length, getD, drop, length-drop, drop-of-length-le}
 use native.Mathlib.Omega.{arith}
-use Rattle.json.specs.Machine.{stepIn, stepOf}
-use Rattle.json.specs.Events.{eventOf}
-use Rattle.json.specs.Pieces.{contentOf}
-use Rattle.json.specs.Tokens.{Token, mark, further, tokensFrom}
+use Rattle.json.specs.machinery.Machine.{stepIn, stepOf}
+use Rattle.json.specs.machinery.Events.{eventOf}
+use Rattle.json.specs.machinery.Pieces.{contentOf}
+use Rattle.json.specs.machinery.Tokens.{Token, mark, further, tokensFrom}
 use Rattle.json.specs.declared.machine.Phase.{Phase}
 use Rattle.json.specs.declared.machine.State as JS
 use Rattle.json.specs.declared.machine.Turn.the-variants as JT
@@ -16,7 +16,7 @@ use Rattle.json.specs.declared.events.Event.the-variants as E
 use Rattle.json.proofs.Comparing.{left}
 use Rattle.members.specs.Members.{Verdict}
 use Rattle.members.specs.Members.Verdict.{fine, refused}
-use Rattle.members.specs.MembersMachine.{outside, inRows, inStrings, turnIn, afterTurn, judge, placed}
+use Rattle.members.specs.machinery.Levels.{outside, inRows, inStrings, turnIn, afterTurn, judge, placed}
 use Rattle.members.specs.declared.checking.Checked.the-variants as C
 use Rattle.members.specs.declared.state.Level.{Level}
 use Rattle.members.specs.declared.state.Level.the-variants as L

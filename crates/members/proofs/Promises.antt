@@ -6,10 +6,10 @@ use Prim.Native.Nat.{ℕ, _≤_}
 use lib.ListN.{length}
 use Rattle.json.specs.Grammar.{Text}
 use Rattle.json.specs.Trees.{treeOf}
-use Rattle.json.specs.Tokens.{Token, tokensOf}
+use Rattle.json.specs.machinery.Tokens.{Token, tokensOf}
 use Rattle.json.proofs.Tokenizing.{text-tokens}
 use Rattle.members.specs.Members.{document}
-use Rattle.members.specs.MembersMachine.{at, judge, placed, membersOf}
+use Rattle.members.specs.machinery.Levels.{at, judge, placed, membersOf}
 use Rattle.members.specs.declared.state.Level.the-variants as L
 use Rattle.members.proofs.Judging.{judged}
 

@@ -7,7 +7,7 @@ use json::events::event_of;
 use json::machine::start;
 use json::machine::step;
 ghost use mathlib.Core.Path.{_≡_};
-ghost use Rattle.members.specs.MembersMachine.{startMembers, membersOf};
+ghost use Rattle.members.specs.machinery.Levels.{startMembers, membersOf};
 
 pub enum Checked {
     Sound,

@@ -5,7 +5,8 @@ use json::pieces::piece_at;
 ghost use mathlib.Core.Path.{_≡_};
 ghost use mathlib.Core.List.{map};
 ghost use lib.ListN.{drop};
-ghost use Rattle.json.specs.Pieces.{contentOf, sameBytes};
+ghost use Rattle.json.specs.Choice.{sameBytes};
+ghost use Rattle.json.specs.machinery.Pieces.{contentOf};
 ghost use Rattle.members.specs.Members.{small};
 
 // A capital letter as a small one.

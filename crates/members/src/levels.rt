@@ -16,10 +16,10 @@ use json::pieces::string_is;
 ghost use mathlib.Core.Path.{_≡_};
 ghost use mathlib.Core.List.{[]};
 ghost use lib.ListN.{drop};
-ghost use Rattle.json.specs.Pieces.{contentOf};
+ghost use Rattle.json.specs.machinery.Pieces.{contentOf};
 ghost use Rattle.json.specs.declared.events.Event.the-variants as E;
 ghost use Rattle.members.specs.Members.{topWhole, rowWhole, awsWhole};
-ghost use Rattle.members.specs.MembersMachine.{go, outside, inTop, inRows, behindRow, inRow, inStrings, inPrincipals, inOperators, inKeys, turnIn};
+ghost use Rattle.members.specs.machinery.Levels.{go, outside, inTop, inRows, behindRow, inRow, inStrings, inPrincipals, inOperators, inKeys, turnIn};
 
 fn next(level: Level, due: u8, top: u16, row: u16, principals: u16, operators: u16, keys: u16, listed: bool) -> Turn
     ensures { λ r. ⌜ r ≡ go level due top row principals operators keys listed ⌝ }

@@ -4,7 +4,7 @@ use json::pieces::string_is;
 ghost use mathlib.Core.Path.{_≡_};
 ghost use Prim.Native.Nat.{_<_};
 ghost use lib.ListN.{drop};
-ghost use Rattle.json.specs.Pieces.{contentOf};
+ghost use Rattle.json.specs.machinery.Pieces.{contentOf};
 ghost use Rattle.members.specs.Members.{topKind, rowKind, awsKind, operatorKind, keyKind};
 
 pub fn top_kind(text: &[u8], from: usize) -> u8

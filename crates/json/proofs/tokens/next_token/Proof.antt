@@ -3,9 +3,9 @@ use Prim.Native.Nat.{ℕ, _+_, _-_, _≤_, _<_}
 use mathlib.Core.Path.{_≡_, refl, sym, _∙_, ap}
 use native.Mathlib.Omega.{arith}
 use lib.ListN.{length, drop, getD}
-use Rattle.json.specs.Events.{eventOf}
-use Rattle.json.specs.Tokens.{mark, tokensFrom}
-use Rattle.json.specs.Marks.{isNothing}
+use Rattle.json.specs.machinery.Events.{eventOf}
+use Rattle.json.specs.machinery.Tokens.{mark, tokensFrom}
+use Rattle.json.specs.machinery.Marks.{isNothing}
 use Rattle.json.specs.declared.events.Event.{Event}
 use Rattle.json.specs.declared.machine.Phase.the-variants as P
 use Rattle.json.proofs.Walking.{taken, passed, broken, none-left}

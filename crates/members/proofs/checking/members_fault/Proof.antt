@@ -3,10 +3,10 @@ use Prim.Native.Nat.{ℕ, _+_, _≤_, _-_}
 use mathlib.Core.Path.{_≡_, sym, _∙_, ap}
 use native.Mathlib.Omega.{arith}
 use lib.ListN.{length, drop}
-use Rattle.json.specs.Pieces.{contentOf}
-use Rattle.json.specs.Tokens.{tokensFrom, tokensOf}
+use Rattle.json.specs.machinery.Pieces.{contentOf}
+use Rattle.json.specs.machinery.Tokens.{tokensFrom, tokensOf}
 use Rattle.json.specs.declared.events.Event.{Event}
-use Rattle.members.specs.MembersMachine.{judge, turnIn, startMembers, placed, membersOf}
+use Rattle.members.specs.machinery.Levels.{judge, turnIn, startMembers, placed, membersOf}
 use Rattle.members.proofs.OneByte.{goes-on, breaks, stops, ends}
 use borrow.Author.Needs.{needs}
 use Rattle.members.proofs.checking.members_fault.Statement.{statement}

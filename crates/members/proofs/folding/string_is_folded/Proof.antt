@@ -3,7 +3,8 @@ use Prim.Native.Nat.{ℕ, _≤_, _-_}
 use mathlib.Core.Path.{_≡_, sym, _∙_, ap}
 use mathlib.Core.List.{List, map}
 use lib.ListN.{length, drop}
-use Rattle.json.specs.Pieces.{contentOf, sameBytes}
+use Rattle.json.specs.Choice.{sameBytes}
+use Rattle.json.specs.machinery.Pieces.{contentOf}
 use Rattle.members.specs.Members.{small}
 use Rattle.members.proofs.Folded.{goes-on, differs, too-short, whole, too-long}
 use borrow.Author.Needs.{needs}

@@ -1,9 +1,9 @@
 use mathlib.Core.Path.{ap}
 use Rattle.members.specs.declared.state.Level.{Level}
-use Rattle.members.specs.MembersMachine.{turnIn}
+use Rattle.members.specs.machinery.Levels.{turnIn}
 use mathlib.Core.List.{[]}
 use lib.ListN.{drop}
-use Rattle.json.specs.Pieces.{contentOf}
+use Rattle.json.specs.machinery.Pieces.{contentOf}
 use Rattle.members.specs.declared.state.Level.the-variants as L
 use Rattle.members.proofs.OneByte.{outside-deaf, rows-deaf, strings-deaf}
 use mathlib.Core.Path.{sym, _∙_}

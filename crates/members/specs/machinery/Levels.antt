@@ -5,11 +5,11 @@ use mathlib.Core.List.{List, [], _∷_}
 use lib.ListN.{length}
 use lib.Dec.{eqb, leb}
 use Rattle.json.specs.Choice.{pick}
-use Rattle.json.specs.Tokens.{Token, tokensOf}
-use Rattle.json.specs.Pieces.{sameBytes}
+use Rattle.json.specs.machinery.Tokens.{Token, tokensOf}
+use Rattle.json.specs.Choice.{sameBytes}
 use Rattle.json.specs.declared.events.Event.{Event}
 use Rattle.json.specs.declared.events.Event.the-variants as E
-use Rattle.json.specs.Tokens.Token.{name, text, other, open-list, close-list, open-object, close-object}
+use Rattle.json.specs.machinery.Tokens.Token.{name, text, other, open-list, close-list, open-object, close-object}
 use Rattle.members.specs.Members.{Verdict, versionText, topKind, rowKind, awsKind, operatorKind, keyKind, rowSlot, isSeen, add, isBad, awsWhole, rowWhole, topWhole}
 use Rattle.members.specs.Members.Verdict.{fine, refused}
 use Rattle.members.specs.declared.state.Level.{Level}

@@ -4,7 +4,7 @@ use mathlib.Core.Bool.{Bool, true, false}
 
 use mathlib.Core.List.{List, [], _∷_}
 use lib.ListN.{length, drop}
-use Rattle.json.specs.Tokens.{Token, mark, tokensFrom}
+use Rattle.json.specs.machinery.Tokens.{Token, mark, tokensFrom}
 use Rattle.json.specs.declared.events.Event.{Event}
 use Rattle.json.specs.declared.events.Event.the-variants as E
 use Rattle.json.specs.declared.machine.Phase.the-variants as P

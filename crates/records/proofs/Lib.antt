@@ -1,0 +1,7 @@
+pub mod Gathering
+pub mod SoughtByte
+pub mod Wished
+pub mod Seeking
+pub mod Addresses
+pub mod Means
+pub mod Streaming

@@ -1,0 +1,27 @@
+use mathlib.Core.Path.{sym, _∙_}
+use borrow.Author.Tests.{eq-eqb, ne-eqb}
+use borrow.Author.Needs.{needs}
+use Rattle.records.proofs.walking.at_name.Statement.{statement}
+use Rattle.records.proofs.walking.at_name.Tie as tie
+use Rattle.records.proofs.walking.at_name.Reads as reads
+use Rattle.records.proofs.walking.at_name.Lts as lts
+use Rattle.records.proofs.walking.kind_in.Reads as kind-in-reads
+use Rattle.records.proofs.walking.slot_in.Reads as slot-in-reads
+
+kind-in-requires : tie.Need-kind-in-requires
+kind-in-requires c κs = search needs
+
+slot-in-requires : tie.Need-slot-in-requires
+slot-in-requires c κs = search needs
+
+returns : tie.Need-returns
+returns c = rw (eq-eqb _ _ (c .before .before .before .if1 .taken), sym (c .before .before .kind-in .ensures .0), eq-eqb _ _ (sym (c .before .slot-in .ensures) ∙ c .if2 .taken))
+
+returns-2 : tie.Need-returns-2
+returns-2 c = rw (eq-eqb _ _ (c .before .before .before .if1 .taken), sym (c .before .before .kind-in .ensures .0), ne-eqb _ _ (λ e. c .if2 .left (c .before .slot-in .ensures ∙ e)))
+
+returns-3 : tie.Need-returns-3
+returns-3 c = simp (ne-eqb _ _ (c .if1 .left))
+
+pub at-name-spec : {M : Type 1} → statement M
+at-name-spec = tie.close (tie.spec kind-in-requires slot-in-requires returns returns-2 returns-3)

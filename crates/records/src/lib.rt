@@ -1,0 +1,2 @@
+// The records that a policy in the public JSON form would make, one after the other, in the order of the table.
+pub mod walking;
