@@ -5,7 +5,7 @@ use mathlib.Core.List.{[]}
 use lib.ListN.{drop}
 use Rattle.json.specs.machinery.Pieces.{contentOf}
 use Rattle.members.specs.declared.state.Level.the-variants as L
-use Rattle.members.proofs.OneByte.{outside-deaf, rows-deaf, strings-deaf}
+use Rattle.members.proofs.OneToken.{outside-deaf, rows-deaf, strings-deaf}
 use mathlib.Core.Path.{sym, _∙_}
 use borrow.Author.Needs.{needs}
 use Rattle.members.proofs.levels.after_token.Statement.{statement}
