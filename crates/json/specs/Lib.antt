@@ -2,6 +2,7 @@
 -- The promises rest on these definitions, and none of these on machinery.
 pub mod Choice
 pub mod Bytes
+pub mod Texts
 pub mod Grammar
 pub mod Trees
 pub mod Answers
