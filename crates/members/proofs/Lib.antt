@@ -2,4 +2,8 @@ pub mod OneByte
 pub mod OneToken
 pub mod Folded
 pub mod Judging
+pub mod Marked
+pub mod FirstFault
+pub mod Places
+pub mod Order
 pub mod Promises
