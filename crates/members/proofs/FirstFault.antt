@@ -1,17 +1,17 @@
 -- What the verdict on a document names is the first of its faults.
 use Prim.Native.Nat.{ℕ}
-use mathlib.Core.Path.{_≡_, refl, sym, _∙_, ap}
+use mathlib.Core.Path.{_≡_, refl, sym, _∙_}
 use mathlib.Core.Bool.{Bool, true, false, _&&_, _||_}
 use mathlib.Core.List.{List, [], _∷_, _++_}
 use lib.Dec.{eqb, leb}
 use Rattle.json.specs.Choice.{pick, sameBytes}
 use Rattle.json.specs.Texts.{ascii}
-use Rattle.json.specs.Trees.{Shape, Tree}
+use Rattle.json.specs.Trees.{Tree}
 use Rattle.json.specs.Trees.Shape.{one, several, named}
 use Rattle.json.specs.Trees.Tree.{text, other, list, object, end-list, element, end-object, member}
-use Rattle.members.specs.Members.{Verdict, following, versionText, topKind, rowKind, awsKind, operatorKind, keyKind, rowSlot, isSeen, add, isBad, itself, always, members, eachText, strings, anyText, thisText, keys, operator, operators, condition, awsWhole, aws, principal, rowValue, rowWhole, row, eachRow, rows, topValue, topWhole, top, document}
+use Rattle.members.specs.Members.{Verdict, following, versionText, topKind, rowKind, awsKind, operatorKind, keyKind, rowSlot, add, itself, always, members, eachText, strings, anyText, thisText, operator, condition, awsWhole, principal, rowValue, rowWhole, row, eachRow, rows, topValue, topWhole, document}
 use Rattle.members.specs.Members.Verdict.{fine, refused}
-use Rattle.members.specs.Faults.{Fault, badName, badValue, among, allAmong, memberFaults, alone, textFaults, thisTextFaults, eachTextFaults, stringFaults, operatorFaults, conditionFaults, principalFaults, rowValueFaults, rowFaults, eachRowFaults, rowsFaults, topValueFaults, faults}
+use Rattle.members.specs.Faults.{Fault, badName, badValue, among, allAmong, memberFaults, textFaults, thisTextFaults, eachTextFaults, stringFaults, operatorFaults, conditionFaults, principalFaults, rowValueFaults, rowFaults, eachRowFaults, rowsFaults, topValueFaults, faults}
 use Rattle.members.proofs.Marked.{Marks, none-met, one-more}
 
 abbrev pub first : List Fault → Verdict

@@ -6,7 +6,7 @@ use native.Mathlib.Omega.{arith}
 use lib.Dec.{eqb, leb}
 use Rattle.json.specs.Choice.{pick, sameBytes}
 use Rattle.json.specs.Texts.{ascii}
-use Rattle.json.specs.Trees.{Shape, Tree}
+use Rattle.json.specs.Trees.{Tree}
 use Rattle.json.specs.Trees.Shape.{one, several, named}
 use Rattle.json.specs.Trees.Tree.{text, other, list, object, end-list, element, end-object, member}
 use Rattle.members.specs.Members.{versionText, topKind, rowKind, awsKind, operatorKind, keyKind, rowSlot}
@@ -28,7 +28,6 @@ both (f ∷ fs) gs high mid low a b p q = (omega arith, p .1, both fs gs (f .lef
 -- what a value of a sort holds falls where its places do
 abbrev Falls : (Tree one → List Fault) → Type 0
 Falls of = (v : Tree one) (high low : ℕ) → Placed v high low → Falling (of v) high low
-
 
 text-falls : Falls textFaults
 text-falls (text n bs) high low p = tt

@@ -1,11 +1,10 @@
 -- The places of a text's tree: they lie in the text and come in its order.
 use Prim.Native.Nat.{ℕ, suc, _≤_, _<_}
-use mathlib.Core.List.{List, [], _∷_}
+use mathlib.Core.List.{List}
 use lib.ListN.{length}
 use native.Mathlib.Omega.{arith}
 use Rattle.json.specs.Grammar.{Characters, Digits, SomeDigits, Whole, Fraction, Power, Unsigned, Part, Reads}
-use Rattle.json.specs.Trees.{Shape, Tree, Made, bytesOf, treeOf}
-use Rattle.json.specs.Trees.Shape.{one, several, named}
+use Rattle.json.specs.Trees.{Shape, Tree, Made, treeOf}
 use Rattle.json.specs.Trees.Tree.{text, other, list, object, end-list, element, end-object, member}
 
 -- all places lie below one number and not below another, and each is lower than those before it

@@ -7,7 +7,7 @@ use native.Mathlib.Omega.{arith}
 use lib.ListN.{length}
 use Rattle.json.specs.Grammar.{Text}
 use Rattle.json.specs.Trees.{treeOf}
-use Rattle.json.specs.machinery.Tokens.{Token, tokensOf}
+use Rattle.json.specs.machinery.Tokens.{Token}
 use Rattle.json.proofs.Tokenizing.{text-tokens}
 use Rattle.members.specs.Members.{document}
 use Rattle.members.specs.Faults.{Fault, faults}

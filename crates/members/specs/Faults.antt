@@ -5,7 +5,7 @@ use mathlib.Core.List.{List, [], _∷_, _++_}
 use lib.Dec.{eqb, leb}
 use Rattle.json.specs.Choice.{pick, sameBytes}
 use Rattle.json.specs.Texts.{ascii}
-use Rattle.json.specs.Trees.{Shape, Tree}
+use Rattle.json.specs.Trees.{Tree}
 use Rattle.json.specs.Trees.Shape.{one, several, named}
 use Rattle.json.specs.Trees.Tree.{text, other, list, object, end-list, element, end-object, member}
 use Rattle.members.specs.Members.{topKind, rowKind, awsKind, operatorKind, keyKind, rowSlot, versionText}
