@@ -1,1 +1,4 @@
 pub mod Copying
+pub mod NetworkTexts
+pub mod LongValues
+pub mod Standing

@@ -1,3 +1,4 @@
 // A policy in the public JSON form, read into a stored table.
+pub mod items;
 pub mod networks;
 pub mod values;

@@ -57,7 +57,7 @@ fn digit_of(byte: u8) -> Digit
 }
 
 // One digit more, up to a greatest value; no number begins with a 0 that is not all of it.
-fn longer(most: u8, digit: u8, number: Number) -> Longer
+fn one_more(most: u8, digit: u8, number: Number) -> Longer
     ensures { λ r. ⌜ r ≡ longerOf most digit number ⌝ }
 {
     match number {
@@ -127,7 +127,7 @@ fn number_step(dots: u8, address: u32, number: Number, byte: u8) -> Further
     ensures { λ r. ⌜ r ≡ numberStep dots address number byte ⌝ }
 {
     match digit_of(byte) {
-        Digit::Is(digit) => at_digit(Part::Dotted(dots, address), longer(255, digit, number)),
+        Digit::Is(digit) => at_digit(Part::Dotted(dots, address), one_more(255, digit, number)),
         Digit::None => {
             if byte == 0x2E {
                 return at_dot(dots, address, number);
@@ -145,7 +145,7 @@ fn length_step(address: u32, number: Number, byte: u8) -> Further
     ensures { λ r. ⌜ r ≡ lengthStep address number byte ⌝ }
 {
     match digit_of(byte) {
-        Digit::Is(digit) => at_digit(Part::Length(address), longer(32, digit, number)),
+        Digit::Is(digit) => at_digit(Part::Length(address), one_more(32, digit, number)),
         Digit::None => Further::Fails,
     }
 }
