@@ -4,6 +4,8 @@ use mathlib.Core.Bool.{Bool, true, false}
 use mathlib.Core.Path.{_≡_, refl, sym, _∙_, ap}
 use mathlib.Core.List.{List, [], _∷_, _++_}
 use native.Mathlib.Omega.{arith}
+use lib.Dec.{ltb}
+use Rattle.json.specs.Choice.{pick}
 use lib.ListN.{length, take, drop, length-append}
 use lib.Seq.{sets}
 use Rattle.stored.specs.Writing.{recordOf, placing, writing, bufferAfter}
@@ -56,9 +58,15 @@ size-encode (made n e ∷ ws) s h =
     let f = first-taken (made n e) ws s h in
     rw (length-append (recordOf (itemOf e) (bytesOf e)) (encode (entries ws)), size-encode ws (f .0) (f .2))
 
+-- the state of a writer that was answered
+abbrev stateOf : State → WriteAnswer → State
+stateOf s (W.Added w) = w .state
+stateOf s (W.Refused k p) = s
+
 -- entries that a writer takes are poured as it leaves them
 pub pours : (ws : List Wish) (w last : Writer) (buffer left : List ℕ) → running ws (w .state) ≡ fine → Writes w buffer (entries ws) last left
     → pouring ws w buffer ≡ record { size = last .at; left = left }
+unfolding writing
 pours [] w last buffer left h x = rw (x .0, x .1)
 pours (strange n ∷ ws) w last buffer left h x = never 3 n h
 pours (empty n ∷ ws) w last buffer left h x = never 5 n h
@@ -68,9 +76,17 @@ pours (made n e ∷ ws) w last buffer left h x =
     adds (made n e) ws w (x .0) buffer (added (x .1))
     ∙ pours ws (x .0) last (sets buffer (w .at) (recordOf (itemOf e) (bytesOf e))) left (moved (f .0) (f .1) (x .0) (x .1) (f .2)) (x .2)
   where
+    size : ℕ
+    size = length (recordOf (itemOf e) (bytesOf e))
     added : {next : Writer} → writing w (itemOf e) (bytesOf e) (length buffer) ≡ W.Added next → wishWriting w (made n e) (length buffer) ≡ W.Added next
-    unfolding writing
     added y = y
     moved : (s : State) → wishTurn (w .state) (made n e) ≡ T.Next s → (next : Writer) → writing w (itemOf e) (bytesOf e) (length buffer) ≡ W.Added next
         → running ws s ≡ fine → running ws (next .state) ≡ fine
-    moved s a next b c = ?
+    moved s a next b c = by (ltb 16384 (w .at + size)) (ltb (length buffer) (w .at + size)) (rw a at (added b))
+      where
+        by : (x y : Bool)
+            → pick x (W.Refused 1 16384) (pick y (W.Refused 14 0) (W.Added (record { state = s; at = w .at + size }))) ≡ W.Added next
+            → running ws (next .state) ≡ fine
+        by true y g = absurd (let z : _≡_ {A = ℕ} 0 1 = cc in omega arith)
+        by false true g = absurd (let z : _≡_ {A = ℕ} 0 1 = cc in omega arith)
+        by false false g = let same : s ≡ next .state = ap (λ (r : WriteAnswer). stateOf s r) g in rw (sym same) c

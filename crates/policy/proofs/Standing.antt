@@ -7,7 +7,7 @@ use mathlib.Core.List.{List, [], _∷_}
 use native.Mathlib.Omega.{arith}
 use lib.Dec.{eqb, leb, ltb}
 use lib.ListN.{length, take, drop}
-use lib.Seq.{length-take-le, take-all}
+use lib.Seq.{length-take-le, take-all, drop-drop}
 use borrow.Author.Tests.{lt-ltb, le-ltb, leb-true, leb-false, eq-eqb, ne-eqb, ltb-true, ltb-false}
 use Rattle.json.specs.Choice.{pick}
 use Rattle.stored.specs.Machine.{admitItem, dueOf, startTurn, countedState}
@@ -22,7 +22,12 @@ use Rattle.stored.specs.declared.machine.Turn.the-variants as T
 use Rattle.stored.specs.declared.writer.Writer.{Writer}
 use Rattle.stored.specs.declared.writer.WriteAnswer.{WriteAnswer}
 use Rattle.stored.specs.declared.writer.WriteAnswer.the-variants as W
+use Rattle.json.specs.machinery.Pieces.{contentOf}
 use Rattle.records.specs.Networks as N
+use Rattle.records.specs.Networks.{networkOf}
+use Rattle.records.specs.machinery.Cursors.{wishOf}
+use Rattle.records.specs.declared.wishes.Wish.the-variants as C
+use Rattle.policy.specs.declared.items.Asked.the-variants as A
 use Rattle.records.specs.Wishes.{Wish, networkWish}
 use Rattle.records.specs.Wishes.Wish.{made, strange, empty, unread}
 use Rattle.records.specs.Records.{unreadFault, wishTurn}
@@ -119,3 +124,29 @@ unread-refused s n size bs x e f = rw (sym e, f) (by (leb (length bs) 128) refl)
         let h = leb-false (length bs) 128 g in
         let l = length-take-le 129 bs (omega arith) in
         rw (l, lt-ltb 128 (length bs) h, ne-eqb (length bs) 0 (λ z. omega arith))
+
+-- a string whose first 129 bytes are copied: as a value
+pub value-asks : (s : State) (t bytes : List ℕ) (place from size : ℕ) → drop from t ≡ drop 1 (drop place t) → length bytes ≡ 129 → size ≤ 129
+    → take size bytes ≡ take 129 (contentOf (drop from t)) → Asks s (wishOf t C.Value place) bytes (A.Item I.Value size)
+value-asks s t bytes place from size e l h same =
+    let there : take size bytes ≡ take 129 (contentOf (drop (place + 1) t)) =
+        same ∙ ap (λ (r : List ℕ). take 129 (contentOf r)) (e ∙ drop-drop 1 place t) in
+    (omega arith, rw there (value-stands s (length t - place) (contentOf (drop (place + 1) t))))
+
+-- and as a network
+pub network-asks : (s : State) (t bytes : List ℕ) (place from a k : ℕ) → drop from t ≡ drop 1 (drop place t)
+    → N.Read.network a k ≡ networkOf (contentOf (drop from t)) → Asks s (wishOf t C.Network place) bytes (A.Item (I.Network a k) 0)
+network-asks s t bytes place from a k e f =
+    let content = contentOf (drop (place + 1) t) in
+    (omega arith,
+    network-stands s (length t - place) a k content (networkOf content) (f ∙ ap (λ (r : List ℕ). networkOf (contentOf r)) (e ∙ drop-drop 1 place t)))
+
+pub network-refused : (s : State) (t bytes : List ℕ) (place from size : ℕ) → drop from t ≡ drop 1 (drop place t)
+    → N.Read.none ≡ networkOf (contentOf (drop from t)) → length bytes ≡ 129 → size ≤ 129 → take size bytes ≡ take 129 (contentOf (drop from t))
+    → wishTurn s (wishOf t C.Network place) ≡ T.Refused (unreadNumber (s .values) size)
+network-refused s t bytes place from size e f l h same =
+    let content = contentOf (drop (place + 1) t) in
+    let there : take size bytes ≡ take 129 content = same ∙ ap (λ (r : List ℕ). take 129 (contentOf r)) (e ∙ drop-drop 1 place t) in
+    let long : size ≡ length (take 129 content) = sym (length-take-le size bytes (omega arith)) ∙ ap (λ (r : List ℕ). length r) there in
+    unread-refused s (length t - place) size content (networkOf content)
+    (f ∙ ap (λ (r : List ℕ). networkOf (contentOf r)) (e ∙ drop-drop 1 place t)) long

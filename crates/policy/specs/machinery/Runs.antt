@@ -16,14 +16,14 @@ use Rattle.members.specs.Members.{Verdict}
 use Rattle.members.specs.Members.Verdict.{fine, refused}
 use Rattle.records.specs.Wishes.{Wish}
 use Rattle.records.specs.Records.{running, sizeOf}
-use Rattle.records.specs.machinery.Cursors.{wishesLeft, firstCursor}
+use Rattle.records.specs.machinery.Streams.{documentFrom}
 use Rattle.policy.specs.machinery.Asking.{wishRecord, wishWriting}
 use Rattle.policy.specs.declared.trying.Dried.{Dried}
 use Rattle.policy.specs.declared.trying.Dried.the-variants as D
 
 -- the wishes of a text
 unfoldable pub wishesOf : List ℕ → List Wish
-wishesOf t = wishesLeft t firstCursor
+wishesOf t = documentFrom (tokensOf t)
 
 -- how far over 16,384 a sum is need not be told
 abbrev pub capped : ℕ → ℕ

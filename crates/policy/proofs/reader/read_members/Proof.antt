@@ -1,0 +1,40 @@
+use borrow.Author.Needs.{needs}
+use Rattle.policy.proofs.reader.read_members.Statement.{statement}
+use Rattle.policy.proofs.reader.read_members.Tie as tie
+use Rattle.policy.proofs.reader.read_members.Reads as reads
+use Rattle.policy.proofs.reader.read_members.Lts as lts
+use Rattle.members.proofs.checking.members_fault.Reads as members-fault-reads
+use Rattle.policy.proofs.reader.read_records.Reads as read-records-reads
+
+members-fault-requires : tie.Need-members-fault-requires
+members-fault-requires c κs = search needs
+
+enum-told : tie.Need-enum-told
+enum-told c = search needs
+
+read-records-requires : tie.Need-read-records-requires
+read-records-requires c κs = search needs
+
+enum-known-number : tie.Need-enum-known-number
+enum-known-number c = search needs
+
+same-length : tie.Need-same-length
+same-length c = search needs
+
+returns : tie.Need-returns
+returns c = search needs
+
+returns-2 : tie.Need-returns-2
+returns-2 c = search needs
+
+pub read-members-spec : {M : Type 1} → statement M
+read-members-spec =
+    tie.close
+    (tie.spec
+    members-fault-requires
+    enum-told
+    read-records-requires
+    enum-known-number
+    same-length
+    returns
+    returns-2)

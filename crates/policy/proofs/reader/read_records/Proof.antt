@@ -1,0 +1,40 @@
+use borrow.Author.Needs.{needs}
+use Rattle.policy.proofs.reader.read_records.Statement.{statement}
+use Rattle.policy.proofs.reader.read_records.Tie as tie
+use Rattle.policy.proofs.reader.read_records.Reads as reads
+use Rattle.policy.proofs.reader.read_records.Lts as lts
+use Rattle.policy.proofs.reader.write_table.Reads as write-table-reads
+use Rattle.policy.proofs.trying.dry_run.Reads as dry-run-reads
+
+dry-run-requires : tie.Need-dry-run-requires
+dry-run-requires c κs = search needs
+
+enum-known-size : tie.Need-enum-known-size
+enum-known-size c = search needs
+
+write-table-requires : tie.Need-write-table-requires
+write-table-requires c κs = search needs
+
+enum-known-number : tie.Need-enum-known-number
+enum-known-number c = search needs
+
+same-length : tie.Need-same-length
+same-length c = search needs
+
+returns : tie.Need-returns
+returns c = search needs
+
+returns-2 : tie.Need-returns-2
+returns-2 c = search needs
+
+pub read-records-spec : {M : Type 1} → statement M
+read-records-spec =
+    tie.close
+    (tie.spec
+    dry-run-requires
+    enum-known-size
+    write-table-requires
+    enum-known-number
+    same-length
+    returns
+    returns-2)
