@@ -1,3 +1,8 @@
+-- What is found, step after step, is what is answered.
+use mathlib.Core.Path.{_≡_, refl, sym, _∙_}
+use Rattle.policy.specs.machinery.Outcomes.{Ends, outcomeOf}
+use Rattle.policy.specs.declared.reader.JsonAnswer.the-variants as A
+use Rattle.policy.proofs.Outcoming.{answers}
 use borrow.Author.Needs.{needs}
 use Rattle.policy.proofs.reader.read_json.Statement.{statement}
 use Rattle.policy.proofs.reader.read_json.Tie as tie
@@ -22,10 +27,17 @@ same-length : tie.Need-same-length
 same-length c = search needs
 
 returns : tie.Need-returns
-returns c = search needs
+returns c =
+    let a = c .before .before .before .before .before .before .before .before .before .args in
+    let m = c .before .before .read-members in
+    answers (a .text .now) (a .table .now) (m .result) (m .last .1 .0)
+    (rw (sym (c .before .before .before .before .before .before .json-fault .ensures) ∙ c .before .before .before .before .enum-told .given .1) (m .ensures))
 
 returns-2 : tie.Need-returns-2
-returns-2 c = search needs
+returns-2 c =
+    let a = c .before .before .before .before .before .before .args in
+    answers (a .text .now) (a .table .now) (A.Refused 20 (c .before .place .given .0 .0)) (a .table .now)
+    (rw (sym (c .before .before .before .json-fault .ensures) ∙ c .before .place .given .1) (record { answers = refl; leaves = refl }))
 
 pub read-json-spec : {M : Type 1} → statement M
 read-json-spec =

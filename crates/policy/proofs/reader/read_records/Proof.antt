@@ -1,3 +1,5 @@
+-- The dry run decides.
+use mathlib.Core.Path.{_≡_, refl, sym, _∙_}
 use borrow.Author.Needs.{needs}
 use Rattle.policy.proofs.reader.read_records.Statement.{statement}
 use Rattle.policy.proofs.reader.read_records.Tie as tie
@@ -22,10 +24,10 @@ same-length : tie.Need-same-length
 same-length c = search needs
 
 returns : tie.Need-returns
-returns c = search needs
+returns c = rw (sym (c .before .before .before .before .before .before .before .dry-run .ensures) ∙ c .before .before .before .before .before .size .given .1) (c .before .before .write-table .ensures)
 
 returns-2 : tie.Need-returns-2
-returns-2 c = search needs
+returns-2 c = rw (sym (c .before .before .before .dry-run .ensures) ∙ c .before .number .given .1) (record { answers = refl; leaves = refl })
 
 pub read-records-spec : {M : Type 1} → statement M
 read-records-spec =

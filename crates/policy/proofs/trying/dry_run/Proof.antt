@@ -1,5 +1,5 @@
 -- The invariant: what the wishes left lead to from the state at hand is what all lead to from the fresh one.
-use Prim.Native.Nat.{ℕ, _≤_}
+use Prim.Native.Nat.{ℕ, _+_, _≤_}
 use mathlib.Core.Path.{_≡_, refl, sym, _∙_, ap}
 use mathlib.Core.List.{List, [], _∷_}
 use native.Mathlib.Omega.{arith}
@@ -69,7 +69,7 @@ loop-again c =
     let more = c .before .before .after .given .0 .1 .0 in
     let left : wishesLeft t (l .cursor) ≡ wishOf t w p ∷ wishesLeft t further = c .before .before .before .before .before .before .before .before .next .ensures .0 ∙ ap (nextWishes t) (c .before .before .before .before .before .before .wish .given .1) in
     let would = sym (c .before .before .before .before .try-wish .ensures) ∙ c .before .before .after .given .1 in (
-      rw (c .added .ensures) (capped-small _),
+      rw (c .added .ensures) (capped-small (l .size + more)),
       rw (c .added .ensures)
       (sym (takes-on t (wishOf t w p) (wishesLeft t further) (l .state) next (l .size) more would)
       ∙ ap (λ (ws : List Wish). driedFrom t ws (l .state) (l .size)) (sym left)
