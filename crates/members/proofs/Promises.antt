@@ -9,7 +9,7 @@ use Rattle.json.specs.Grammar.{Text}
 use Rattle.json.specs.Trees.{treeOf}
 use Rattle.json.specs.machinery.Tokens.{Token}
 use Rattle.json.proofs.Tokenizing.{text-tokens}
-use Rattle.members.specs.Members.{document}
+use Rattle.members.specs.machinery.Verdicts.{document}
 use Rattle.members.specs.Faults.{Fault, faults}
 use Rattle.members.specs.machinery.Levels.{at, judge, placed, membersOf}
 use Rattle.members.specs.declared.checking.Checked.{Checked}
