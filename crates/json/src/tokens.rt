@@ -73,6 +73,9 @@ pub fn next_token(text: &[u8], from: Mark) -> Met
                 }
             }
             Turn::Fails => {
+                if is_nothing(event) {
+                    return Met::None;
+                }
                 return Met::Token(event, at, Mark { at: text.len(), phase: Phase::Value, stack: 1 });
             }
         }

@@ -1,3 +1,4 @@
+-- What the proofs of several functions share, and the promises: a file for each concept.
 pub mod Copying
 pub mod NetworkTexts
 pub mod LongValues
@@ -6,3 +7,5 @@ pub mod FirstWishes
 pub mod DryRuns
 pub mod Pouring
 pub mod Outcoming
+pub mod Numbers
+pub mod Promises

@@ -13,22 +13,30 @@ use Rattle.json.specs.Trees.{Tree, treeOf}
 use Rattle.json.specs.Trees.Shape.{one}
 use Rattle.json.specs.machinery.Tokens.{tokensOf}
 use Rattle.json.specs.machinery.Reading.{faultOf}
-use Rattle.json.specs.declared.reader.Fault.{Fault}
+use Rattle.json.specs.declared.reader.Fault as J
 use Rattle.json.specs.declared.reader.Fault.the-variants as F
-use Rattle.json.proofs.Promises.{Says, json-first-fault, json-sound}
+use Rattle.json.specs.Answers.{Says}
+use Rattle.json.proofs.Promises.{json-first-fault, json-sound, one-fault}
 use Rattle.json.proofs.Tokenizing.{text-tokens}
 use Rattle.stored.specs.Machine.{freshState}
 use Rattle.stored.specs.Writing.{freshWriter}
 use Rattle.stored.specs.Entries.{Entry, encode, Writes}
 use Rattle.stored.specs.Entries.Entry.{start, statement, column, condition, network, value, end}
 use Rattle.stored.specs.Form.{listedFor, elementsFor, conditionsFor, statementsFor, entriesFor}
-use Rattle.stored.specs.Tables.{Listed, Element, Condition, Statement}
-use Rattle.stored.proofs.Promises.{written-so-far}
-use Rattle.members.specs.Members.{Verdict, document}
+use Rattle.stored.specs.Tables.{Listed, Element, Condition, Statement, rowsOf}
+use Rattle.stored.specs.Reading.{reading}
+use Rattle.stored.specs.declared.reader.ReadAnswer.the-variants as R
+use Rattle.stored.proofs.Promises.{written-so-far, three-elements}
+use Rattle.members.specs.Members.{Verdict}
+use Rattle.members.specs.Faults as M
+use Rattle.members.specs.Faults.{Fault, faults, In, Lowest}
+use Rattle.members.specs.machinery.Verdicts.{document}
 use Rattle.members.specs.Members.Verdict.{fine, refused}
 use Rattle.members.specs.machinery.Levels.{placed, membersOf}
 use Rattle.members.specs.declared.checking.Checked.{Checked}
-use Rattle.members.proofs.Promises.{json-members}
+use Rattle.members.specs.declared.checking.Checked.the-variants as C
+use Rattle.members.proofs.FirstFault.{first, first-fault}
+use Rattle.members.proofs.Promises.{json-members, json-lowest}
 use Rattle.records.specs.Documents.{statementsOf}
 use Rattle.records.specs.TableEntries.{listedEntries, elementEntries, conditionEntries, statementEntries, tableEntries}
 use Rattle.records.specs.Wishes.{Wish, wishes, entries}
@@ -48,10 +56,14 @@ use Rattle.policy.specs.declared.reader.JsonAnswer.the-variants as A
 use Rattle.policy.proofs.DryRuns.{capped-same}
 use Rattle.policy.proofs.Pouring.{size-encode, pours}
 
+-- no fault among the members: the verdict on them is fine
+no-fault : {t : List ℕ} (x : Text t) → faults (documentOf x) ≡ [] → document (documentOf x) ≡ fine
+no-fault x e = first-fault (documentOf x) ∙ ap first e
+
 -- a text's wishes are its document's
-same-wishes : {t : List ℕ} (x : Text t) → document (documentOf x) ≡ fine → wishesOf t ≡ wishes (documentOf x)
+same-wishes : {t : List ℕ} (x : Text t) → faults (documentOf x) ≡ [] → wishesOf t ≡ wishes (documentOf x)
 unfolding wishesOf
-same-wishes x e = ap documentFrom (text-tokens x) ∙ document-from (documentOf x) [] e
+same-wishes x e = ap documentFrom (text-tokens x) ∙ document-from (documentOf x) [] (no-fault x e)
 
 -- the entries of statements, said in two ways
 same-listed : (vs : List Listed) (es : List Entry) → listedEntries vs es ≡ listedFor vs es
@@ -82,7 +94,7 @@ wished-for : (v : Tree one) → entries (wishes v) ≡ entriesFor (statementsOf 
 wished-for v = wished v ∙ ap (λ (xs : List Entry). start (length (statementsOf v)) ∷ xs) (same-statements (statementsOf v))
 
 -- the dry run of a text without a 20, 21 or 22
-module _ {t : List ℕ} (x : Text t) (fit : document (documentOf x) ≡ fine) where
+module _ {t : List ℕ} (x : Text t) (fit : faults (documentOf x) ≡ []) where
   dried-document : driedOf t ≡ dried (length t) (sizeOf (wishes (documentOf x))) (recordsOf (documentOf x))
   unfolding driedOf driedFrom
   dried-document =
@@ -116,37 +128,54 @@ module _ {t : List ℕ} (x : Text t) (fit : document (documentOf x) ≡ fine) wh
       ∙ pours (wishes v) freshWriter (m .last) buffer (m .left) h (m .writes)
       ∙ (rw (long, whole))
 
--- two first faults are one
-first-once : (t : List ℕ) (p q : ℕ) → FirstFault t p → FirstFault t q → p ≡ q
-first-once t p q f g = by (ltb p q) refl (ltb q p) refl
-  where
-    by : (x : Bool) → ltb p q ≡ x → (y : Bool) → ltb q p ≡ y → p ≡ q
-    by true e y h = absurd (f .longest q (ltb-true p q e) (g .inside) (g .begins))
-    by false e true h = absurd (g .longest p (ltb-true q p h) (f .inside) (f .begins))
-    by false e false h = omega (arith, ltb-false p q e, ltb-false q p h)
+-- the table of a document that is taken reads as its statements
+pub table-reads : {t : List ℕ} (x : Text t) → Taken x → length (tableOf x) ≤ 16384
+    → (reading (tableOf x) ≡ R.Accepted (length (statementsOf (documentOf x)))) × (rowsOf (tableOf x) ≡ statementsOf (documentOf x))
+table-reads x h a =
+    let v = documentOf x in
+    let s = size-table x (h .members) (h .records) in
+    let m = json-means v (tableOf x) (h .records) (omega arith) (omega arith) in
+    let so-far = written-so-far (entries (wishes v)) (tableOf x) (m .last) (m .left) (m .writes) in
+    let front : take (m .last .at) (m .left) ≡ tableOf x = so-far .1 ∙ ap encode (wished-for v) in
+    let reads : reading (tableOf x) ≡ R.Accepted (m .last .state .rows) = ap reading (sym front) ∙ m .reads in
+    let rows : rowsOf (tableOf x) ≡ statementsOf v = ap (λ (t : List ℕ). rowsOf t) (sym front) ∙ m .says in
+    let count : m .last .state .rows ≡ length (statementsOf v) = sym (three-elements (tableOf x) (m .last .state .rows) reads .0) ∙ ap (λ (l : List Statement). length l) rows in
+    (reads ∙ ap R.Accepted count, rows)
 
 capped-over : (n : ℕ) → 16384 < n → capped n ≡ 16385
 capped-over n h = rw (lt-ltb 16384 n h)
 
+-- the lowest fault is one
+nowhere : {f : Fault} {X : Type 0} (fs : List Fault) → fs ≡ [] → In f fs → X
+nowhere (g ∷ fs) e i = absurd (let z : _≡_ {A = ℕ} 0 1 = cc in omega arith)
+
+lowest-once : (size : ℕ) (fs : List Fault) (k p m q : ℕ) → Lowest size fs k p → Lowest size fs m q → (k ≡ m) × (p ≡ q)
+lowest-once size fs k p m q a b =
+    let here : p ≡ q = omega (arith, a .lowest (b .fault) (b .is-one), b .its-place, b .lowest (a .fault) (a .is-one), a .its-place) in
+    let same = a .only (b .fault) (b .is-one) (b .its-place ∙ sym here) in
+    (sym (a .its-number) ∙ ap (λ (f : Fault). f .number) (sym same) ∙ b .its-number, here)
+
 -- the steps to an outcome
 module _ {t : List ℕ} (buffer : List ℕ) (x : Text t) where
-  at-members : outcomeOf t buffer ≡ byMembers t buffer (placed (length t) (document (documentOf x)))
-  at-members = rw (json-sound t x, json-members t x)
+  at-members : outcomeOf t buffer ≡ byMembers t buffer (membersOf t)
+  at-members = rw (json-sound t x)
 
-  at-records : document (documentOf x) ≡ fine → outcomeOf t buffer ≡ byRecords t buffer (driedOf t)
-  at-records e = at-members ∙ rw e
+  at-records : faults (documentOf x) ≡ [] → outcomeOf t buffer ≡ byRecords t buffer (driedOf t)
+  at-records e = at-members ∙ rw (json-members t x, no-fault x e)
 
   at-size : Taken x → outcomeOf t buffer ≡ byRecords t buffer (D.Fine (capped (length (tableOf x))))
   at-size h = at-records (h .members) ∙ rw (dried-fine x (h .members) (h .records))
 
 -- what is answered is what the reader finds
 pub found : {t buffer : List ℕ} {r : JsonAnswer} {left : List ℕ} → Answered t buffer r left → outcomeOf t buffer ≡ record { answer = r; left = left }
-found {t} {buffer} (no-text {p} f) = by (faultOf t) (json-first-fault t)
+found {t} {buffer} (no-text {p} f) = rw (one-fault t (faultOf t) (F.At p) (json-first-fault t) f)
+found {t} {buffer} (wrong-member {k} {p} x l) = at-members buffer x ∙ by (membersOf t) (json-lowest t x)
   where
-    by : (g : Fault) → Says t g → byFault t buffer g ≡ refusing 20 p buffer
-    by F.Nothing x = absurd (f .no-text x)
-    by (F.At q) h = rw (first-once t q p h f)
-found {t} {buffer} (wrong-member x e) = at-members buffer x ∙ rw e
+    by : (r : Checked) → M.Says (length t) (faults (documentOf x)) r → byMembers t buffer r ≡ refusing k p buffer
+    by C.Sound e = nowhere (faults (documentOf x)) e (l .is-one)
+    by (C.Refused m q) b =
+        let same = lowest-once (length t) (faults (documentOf x)) m q k p b l in
+        rw (same .0, same .1)
 found {t} {buffer} (wrong-record {k} {n} x e f) = at-records buffer x e ∙ rw (dried-refused x e k n f)
 found {t} {buffer} (too-long x h a) = at-size buffer x h ∙ rw (capped-over (length (tableOf x)) a)
 found {t} {buffer} (no-room x h a b) =
@@ -156,34 +185,46 @@ found {t} {buffer} (written x h a b) =
     at-size buffer x h
     ∙ rw (capped-same (length (tableOf x)) (omega arith), le-ltb 16384 (length (tableOf x)) a, le-ltb (length buffer) (length (tableOf x)) b, poured x (h .members) buffer (h .records) a b)
 
+-- some answer to a text and a buffer
+pub record Some (t buffer : List ℕ) : Type 0 where
+  pub answer : JsonAnswer
+  pub left : List ℕ
+  pub answered : Answered t buffer answer left
+
+-- that of a text, by one of its derivations
+module _ {t : List ℕ} (buffer : List ℕ) (x : Text t) where
+  some-size : Taken x → (p q : Bool) → ltb 16384 (length (tableOf x)) ≡ p → ltb (length buffer) (length (tableOf x)) ≡ q → Some t buffer
+  some-size h true q e f = record { answer = _; left = _; answered = too-long x h (ltb-true 16384 (length (tableOf x)) e) }
+  some-size h false true e f =
+      record { answer = _; left = _; answered = no-room x h (ltb-false 16384 (length (tableOf x)) e) (ltb-true (length buffer) (length (tableOf x)) f) }
+  some-size h false false e f =
+      record { answer = _; left = _; answered = written x h (ltb-false 16384 (length (tableOf x)) e) (ltb-false (length buffer) (length (tableOf x)) f) }
+
+  some-record : faults (documentOf x) ≡ [] → (v : Verdict) → recordsOf (documentOf x) ≡ v → Some t buffer
+  some-record e fine f =
+      some-size (record { members = e; records = f }) (ltb 16384 (length (tableOf x))) (ltb (length buffer) (length (tableOf x))) refl refl
+  some-record e (refused k n) f = record { answer = _; left = _; answered = wrong-record x e f }
+
+  some-member : (r : Checked) → M.Says (length t) (faults (documentOf x)) r → Some t buffer
+  some-member C.Sound e = some-record e (recordsOf (documentOf x)) refl
+  some-member (C.Refused k p) l = record { answer = _; left = _; answered = wrong-member x l }
+
 -- every text and buffer has an answer
-pub some-answer : (t buffer : List ℕ) → (r : JsonAnswer) × (left : List ℕ) × Answered t buffer r left
+pub some-answer : (t buffer : List ℕ) → Some t buffer
 some-answer t buffer = by (faultOf t) (json-first-fault t)
   where
-    sized : (x : Text t) → Taken x → (p q : Bool) → ltb 16384 (length (tableOf x)) ≡ p → ltb (length buffer) (length (tableOf x)) ≡ q
-        → (r : JsonAnswer) × (left : List ℕ) × Answered t buffer r left
-    sized x h true q e f = (_, _, too-long x h (ltb-true 16384 (length (tableOf x)) e))
-    sized x h false true e f = (_, _, no-room x h (ltb-false 16384 (length (tableOf x)) e) (ltb-true (length buffer) (length (tableOf x)) f))
-    sized x h false false e f = (_, _, written x h (ltb-false 16384 (length (tableOf x)) e) (ltb-false (length buffer) (length (tableOf x)) f))
-    recorded : (x : Text t) → document (documentOf x) ≡ fine → (v : Verdict) → recordsOf (documentOf x) ≡ v
-        → (r : JsonAnswer) × (left : List ℕ) × Answered t buffer r left
-    recorded x e fine f = sized x (record { members = e; records = f }) (ltb 16384 (length (tableOf x))) (ltb (length buffer) (length (tableOf x))) refl refl
-    recorded x e (refused k n) f = (_, _, wrong-record x e f)
-    checked : (x : Text t) → (v : Verdict) → document (documentOf x) ≡ v → (r : JsonAnswer) × (left : List ℕ) × Answered t buffer r left
-    checked x fine e = recorded x e (recordsOf (documentOf x)) refl
-    checked x (refused k n) e = (_, _, wrong-member x e)
-    by : (g : Fault) → Says t g → (r : JsonAnswer) × (left : List ℕ) × Answered t buffer r left
-    by F.Nothing x = checked x (document (documentOf x)) refl
-    by (F.At p) f = (_, _, no-text f)
+    by : (g : J.Fault) → Says t g → Some t buffer
+    by F.Nothing x = some-member buffer x (membersOf t) (json-lowest t x)
+    by (F.At p) f = record { answer = _; left = _; answered = no-text f }
 
 -- what the reader finds is answered
 pub answers : (t buffer : List ℕ) (r : JsonAnswer) (left : List ℕ) → Ends (outcomeOf t buffer) r left → Answered t buffer r left
 answers t buffer r left e =
     let s = some-answer t buffer in
-    let f = found (s .2) in
-    let a : s .0 ≡ r = ap (λ (o : Outcome). o .answer) (sym f) ∙ sym (e .answers) in
-    let b : s .1 ≡ left = ap (λ (o : Outcome). o .left) (sym f) ∙ sym (e .leaves) in
-    subst (λ (l : List ℕ). Answered t buffer r l) b (subst (λ (q : JsonAnswer). Answered t buffer q (s .1)) a (s .2))
+    let f = found (s .answered) in
+    let a : s .answer ≡ r = ap (λ (o : Outcome). o .answer) (sym f) ∙ sym (e .answers) in
+    let b : s .left ≡ left = ap (λ (o : Outcome). o .left) (sym f) ∙ sym (e .leaves) in
+    subst (λ (l : List ℕ). Answered t buffer r l) b (subst (λ (q : JsonAnswer). Answered t buffer q (s .left)) a (s .answered))
 
 -- two answers to one text and buffer are one
 pub one-answer : (t buffer : List ℕ) (r q : JsonAnswer) (left rest : List ℕ) → Answered t buffer r left → Answered t buffer q rest → (r ≡ q) × (left ≡ rest)

@@ -8,7 +8,7 @@ use Rattle.json.specs.machinery.Tokens.{mark, tokensFrom}
 use Rattle.json.specs.machinery.Marks.{isNothing}
 use Rattle.json.specs.declared.events.Event.{Event}
 use Rattle.json.specs.declared.machine.Phase.the-variants as P
-use Rattle.json.proofs.Walking.{taken, passed, broken, none-left}
+use Rattle.json.proofs.Walking.{taken, passed, broken, failed, none-left}
 use borrow.Author.Needs.{needs}
 use Rattle.json.proofs.tokens.next_token.Statement.{statement}
 use Rattle.json.proofs.tokens.next_token.Tie as tie
@@ -71,25 +71,37 @@ returns c =
     let on = sym (c .before .before .before .before .before .step .ensures) ∙ c .before .before .before .next .given .1 in (
       l .inv .1 ∙ taken text (l .at) (l .state) h next on
       ∙ ap (λ (e : Event). mark e (length text - l .at) (drop (l .at + 1) text) (tokensFrom (drop (l .at + 1) text) (next .phase) (next .stack))) (sym (c .before .before .before .before .before .before .event-of .ensures)),
-      (l .inv .0, omega arith, omega arith),
+      (l .inv .0, omega arith, omega arith, sym (c .before .is-nothing .ensures) ∙ c .if1 .left),
     )
 
 enum-told : tie.Need-enum-told Inv-loop μ-loop
 enum-told c = search needs
 
+is-nothing-requires-2 : tie.Need-is-nothing-requires-2 Inv-loop μ-loop
+is-nothing-requires-2 c κs = search needs
+
 returns-2 : tie.Need-returns-2 Inv-loop μ-loop
 returns-2 c =
-    let l = c .before .before .before .before .before .before .loop in
-    let text = c .before .before .before .before .before .before .before .before .args .text .now in
-    let h = c .before .before .before .before .before .loop-test .taken in
-    let off = sym (c .before .before .step .ensures) ∙ c .enum-told .given .1 in (
-      l .inv .1 ∙ broken text (l .at) (l .state) h P.Value 1 off
-      ∙ ap (λ (e : Event). mark e (length text - l .at) (drop (l .at + 1) text) (tokensFrom (drop (length text) text) P.Value 1)) (sym (c .before .before .before .event-of .ensures)),
-      (l .inv .0, h, omega arith),
-    )
+    let l = c .before .before .before .before .before .before .before .before .loop in
+    let text = c .before .before .before .before .before .before .before .before .before .before .args .text .now in
+    let h = c .before .before .before .before .before .before .before .loop-test .taken in
+    let off = sym (c .before .before .before .before .step .ensures) ∙ c .before .before .enum-told .given .1 in
+    let blank = sym (c .before .is-nothing2 .ensures ∙ ap isNothing (c .before .before .before .before .before .event-of .ensures)) ∙ c .if2 .taken in
+    (l .inv .1 ∙ failed text (l .at) (l .state) h off blank, search needs)
 
 returns-3 : tie.Need-returns-3 Inv-loop μ-loop
 returns-3 c =
+    let l = c .before .before .before .before .before .before .before .before .loop in
+    let text = c .before .before .before .before .before .before .before .before .before .before .args .text .now in
+    let h = c .before .before .before .before .before .before .before .loop-test .taken in
+    let off = sym (c .before .before .before .before .step .ensures) ∙ c .before .before .enum-told .given .1 in (
+      l .inv .1 ∙ broken text (l .at) (l .state) h P.Value 1 off
+      ∙ ap (λ (e : Event). mark e (length text - l .at) (drop (l .at + 1) text) (tokensFrom (drop (length text) text) P.Value 1)) (sym (c .before .before .before .before .before .event-of .ensures)),
+      (l .inv .0, h, omega arith, sym (c .before .is-nothing2 .ensures) ∙ c .if2 .left),
+    )
+
+returns-4 : tie.Need-returns-4 Inv-loop μ-loop
+returns-4 c =
     let l = c .before .loop in
     let text = c .before .before .before .args .text .now in
     (l .inv .1 ∙ none-left text (l .at) (l .state) (c .loop-test .left), search needs)
@@ -112,5 +124,7 @@ next-token-spec =
     add-t19
     returns
     enum-told
+    is-nothing-requires-2
     returns-2
-    returns-3)
+    returns-3
+    returns-4)
