@@ -1,3 +1,5 @@
+use mathlib.Core.Path.{_≡_, sym, _∙_, ap, subst}
+use Rattle.records.specs.machinery.Cursors.{behindRow, saidLeft}
 use borrow.Author.Needs.{needs}
 use Rattle.records.proofs.cursor.conditions_at.Statement.{statement}
 use Rattle.records.proofs.cursor.conditions_at.Tie as tie
@@ -19,10 +21,16 @@ after-row-requires : tie.Need-after-row-requires
 after-row-requires c κs = search needs
 
 returns : tie.Need-returns
-returns c = search needs
+returns c =
+    let a = c .before .before .before .before .before .args in
+    let text = a .text .now in
+    c .before .before .before .next-condition .ensures (behindRow text (a .row) (a .listed)) ∙ ap (saidLeft text (behindRow text (a .row) (a .listed))) (c .before .wish .given .1)
 
 returns-2 : tie.Need-returns-2
-returns-2 c = search needs
+returns-2 c =
+    let a = c .before .before .before .before .before .args in
+    let text = a .text .now in
+    c .before .before .before .next-condition .ensures (behindRow text (a .row) (a .listed)) ∙ ap (saidLeft text (behindRow text (a .row) (a .listed))) (c .before .enum-told .given .1) ∙ c .after-row .ensures
 
 pub conditions-at-spec : {M : Type 1} → statement M
 conditions-at-spec =

@@ -1,4 +1,3 @@
-
 use borrow.Author.Needs.{needs}
 use Rattle.records.proofs.cursor.first.Statement.{statement}
 use Rattle.records.proofs.cursor.first.Tie as tie

@@ -1,3 +1,7 @@
+use mathlib.Core.Path.{_≡_, sym, _∙_, ap, subst}
+use Rattle.json.specs.machinery.Marks.{tokensAt}
+use Rattle.records.specs.machinery.Cursors.{behindRow, partsFrom}
+use Rattle.records.specs.declared.stages.Part.{Part}
 use borrow.Author.Needs.{needs}
 use Rattle.records.proofs.cursor.parts.Statement.{statement}
 use Rattle.records.proofs.cursor.parts.Tie as tie
@@ -33,16 +37,28 @@ conditions-requires : tie.Need-conditions-requires
 conditions-requires c κs = search needs
 
 returns : tie.Need-returns
-returns c = search needs
+returns c =
+    let a = c .before .before .before .before .args in
+    let text = a .text .now in
+    ap (λ (p : Part). partsFrom (tokensAt text (a .row)) p (behindRow text (a .row) (a .listed))) (c .before .enum-told .given .1) ∙ c .principal .ensures
 
 returns-2 : tie.Need-returns-2
-returns-2 c = search needs
+returns-2 c =
+    let a = c .before .before .before .before .args in
+    let text = a .text .now in
+    ap (λ (p : Part). partsFrom (tokensAt text (a .row)) p (behindRow text (a .row) (a .listed))) (c .before .enum-told2 .given .1) ∙ c .action .ensures
 
 returns-3 : tie.Need-returns-3
-returns-3 c = search needs
+returns-3 c =
+    let a = c .before .before .before .before .args in
+    let text = a .text .now in
+    ap (λ (p : Part). partsFrom (tokensAt text (a .row)) p (behindRow text (a .row) (a .listed))) (c .before .enum-told3 .given .1) ∙ c .resource .ensures
 
 returns-4 : tie.Need-returns-4
-returns-4 c = search needs
+returns-4 c =
+    let a = c .before .before .before .before .args in
+    let text = a .text .now in
+    ap (λ (p : Part). partsFrom (tokensAt text (a .row)) p (behindRow text (a .row) (a .listed))) (c .before .enum-told4 .given .1) ∙ c .conditions .ensures
 
 pub parts-spec : {M : Type 1} → statement M
 parts-spec =

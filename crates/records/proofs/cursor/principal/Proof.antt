@@ -1,3 +1,8 @@
+use mathlib.Core.Path.{_≡_, sym, _∙_, ap, subst}
+use Rattle.json.specs.machinery.Marks.{tokensAt}
+use Rattle.records.specs.machinery.Walkers.{Sought, told}
+use Rattle.records.specs.machinery.Streams.{elementFrom}
+use Rattle.records.specs.machinery.Cursors.{behindRow, actionPart}
 use borrow.Author.Needs.{needs}
 use Rattle.records.proofs.cursor.principal.Statement.{statement}
 use Rattle.records.proofs.cursor.principal.Tie as tie
@@ -23,10 +28,16 @@ column-requires : tie.Need-column-requires
 column-requires c κs = search needs
 
 returns : tie.Need-returns
-returns c = search needs
+returns c =
+    let a = c .before .before .before .before .before .args in
+    let text = a .text .now in
+    ap (λ (x : Sought). elementFrom x (actionPart (tokensAt text (a .row)) (behindRow text (a .row) (a .listed)))) (sym (c .before .before .before .seek-member .ensures) ∙ ap (told text) (c .before .enum-told .given .1)) ∙ c .action .ensures
 
 returns-2 : tie.Need-returns-2
-returns-2 c = search needs
+returns-2 c =
+    let a = c .before .before .before .before .before .before .args in
+    let text = a .text .now in
+    ap (λ (x : Sought). elementFrom x (actionPart (tokensAt text (a .row)) (behindRow text (a .row) (a .listed)))) (sym (c .before .before .before .before .seek-member .ensures) ∙ ap (told text) (c .before .before .kind .given .1)) ∙ c .column .ensures
 
 pub principal-spec : {M : Type 1} → statement M
 principal-spec =

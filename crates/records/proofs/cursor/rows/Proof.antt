@@ -1,3 +1,8 @@
+use mathlib.Core.Path.{_≡_, sym, _∙_, ap, subst}
+use Rattle.json.specs.machinery.Marks.{tokensAt}
+use Rattle.records.specs.machinery.Cursors.{last}
+use Rattle.records.specs.machinery.Rows.{sighted}
+use Rattle.records.proofs.Sighting.{rowsBy, rows-in}
 use borrow.Author.Needs.{needs}
 use Rattle.records.proofs.cursor.rows.Statement.{statement}
 use Rattle.records.proofs.cursor.rows.Tie as tie
@@ -23,10 +28,16 @@ statement-requires : tie.Need-statement-requires
 statement-requires c κs = search needs
 
 returns : tie.Need-returns
-returns c = search needs
+returns c =
+    let a = c .before .before .before .before .before .args in
+    let text = a .text .now in
+    rows-in last (tokensAt text (a .from)) (a .among) ∙ ap (rowsBy last) (sym (c .before .before .before .next-row .ensures .0) ∙ ap (sighted text) (c .before .enum-told .given .1)) ∙ c .end .ensures
 
 returns-2 : tie.Need-returns-2
-returns-2 c = search needs
+returns-2 c =
+    let a = c .before .before .before .before .before .before .args in
+    let text = a .text .now in
+    rows-in last (tokensAt text (a .from)) (a .among) ∙ ap (rowsBy last) (sym (c .before .before .before .before .next-row .ensures .0) ∙ ap (sighted text) (c .before .before .row .given .1)) ∙ c .statement .ensures
 
 pub rows-spec : {M : Type 1} → statement M
 rows-spec =

@@ -1,3 +1,7 @@
+use mathlib.Core.Path.{_≡_, sym, _∙_, ap, subst}
+use Rattle.records.specs.machinery.Walkers.{told}
+use Rattle.records.specs.machinery.Streams.{effectFrom}
+use Rattle.records.proofs.Wishing.{no-effect-left}
 use borrow.Author.Needs.{needs}
 use Rattle.records.proofs.effects.effect_of.Statement.{statement}
 use Rattle.records.proofs.effects.effect_of.Tie as tie
@@ -19,10 +23,16 @@ effect-on-requires : tie.Need-effect-on-requires
 effect-on-requires c κs = search needs
 
 returns : tie.Need-returns
-returns c = search needs
+returns c =
+    let a = c .before .before .before .before .args in
+    let text = a .text .now in
+    ap effectFrom (sym (c .before .before .seek-member .ensures) ∙ ap (told text) (c .enum-told .given .1)) ∙ no-effect-left text
 
 returns-2 : tie.Need-returns-2
-returns-2 c = search needs
+returns-2 c =
+    let a = c .before .before .before .before .before .before .args in
+    let text = a .text .now in
+    ap effectFrom (sym (c .before .before .before .before .seek-member .ensures) ∙ ap (told text) (c .before .before .kind .given .1)) ∙ c .effect-on .ensures
 
 pub effect-of-spec : {M : Type 1} → statement M
 effect-of-spec =

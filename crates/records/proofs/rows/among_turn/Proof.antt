@@ -1,3 +1,4 @@
+use mathlib.Core.Path.{sym, _∙_}
 use borrow.Author.Needs.{needs}
 use Rattle.records.proofs.rows.among_turn.Statement.{statement}
 use Rattle.records.proofs.rows.among_turn.Tie as tie
@@ -44,28 +45,28 @@ higher-requires-2 : tie.Need-higher-requires-2
 higher-requires-2 c κs = search needs
 
 returns : tie.Need-returns
-returns c = search needs
+returns c = simp (c .enum-told .given .1)
 
 returns-2 : tie.Need-returns-2
-returns-2 c = search needs
+returns-2 c = simp (c .enum-told2 .given .1)
 
 returns-3 : tie.Need-returns-3
-returns-3 c = search needs
+returns-3 c = simp (c .enum-told3 .given .1)
 
 returns-4 : tie.Need-returns-4
-returns-4 c = search needs
+returns-4 c = simp (c .enum-told4 .given .1)
 
 returns-5 : tie.Need-returns-5
-returns-5 c = search needs
+returns-5 c = simp (c .before .enum-told5 .given .1, c .deeper .ensures)
 
 returns-6 : tie.Need-returns-6
-returns-6 c = search needs
+returns-6 c = simp (c .before .enum-told6 .given .1, c .higher .ensures)
 
 returns-7 : tie.Need-returns-7
-returns-7 c = search needs
+returns-7 c = simp (c .before .enum-told7 .given .1, c .object .ensures)
 
 returns-8 : tie.Need-returns-8
-returns-8 c = search needs
+returns-8 c = simp (c .before .enum-told8 .given .1, c .higher2 .ensures)
 
 pub among-turn-spec : {M : Type 1} → statement M
 among-turn-spec =

@@ -1,3 +1,6 @@
+use mathlib.Core.Path.{_≡_, sym, _∙_, ap, subst}
+use native.Mathlib.Omega.{arith}
+use Rattle.records.specs.machinery.Rows.{AtMost}
 use borrow.Author.Needs.{needs}
 use Rattle.records.proofs.rows.object.Statement.{statement}
 use Rattle.records.proofs.rows.object.Tie as tie
@@ -14,16 +17,18 @@ enum-known-among : tie.Need-enum-known-among
 enum-known-among c = search needs
 
 add-t4 : tie.Need-add-t4
-add-t4 c = search needs
+add-t4 c =
+    let h = subst (AtMost 18446744073709551614) (c .before .among .given .1) (c .before .before .before .pre) in
+    omega (arith, h)
 
 returns : tie.Need-returns
-returns c = search needs
+returns c = simp (c .enum-told .given .1)
 
 returns-2 : tie.Need-returns-2
-returns-2 c = search needs
+returns-2 c = simp (c .enum-told2 .given .1)
 
 returns-3 : tie.Need-returns-3
-returns-3 c = search needs
+returns-3 c = simp (c .before .among .given .1)
 
 pub object-spec : {M : Type 1} → statement M
 object-spec =
