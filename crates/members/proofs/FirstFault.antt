@@ -9,7 +9,8 @@ use Rattle.json.specs.Texts.{ascii}
 use Rattle.json.specs.Trees.{Tree}
 use Rattle.json.specs.Trees.Shape.{one, several, named}
 use Rattle.json.specs.Trees.Tree.{text, other, list, object, end-list, element, end-object, member}
-use Rattle.members.specs.Members.{Verdict, following, versionText, topKind, rowKind, awsKind, operatorKind, keyKind, rowSlot, add, itself, always, members, eachText, strings, anyText, thisText, operator, condition, awsWhole, principal, rowValue, rowWhole, row, eachRow, rows, topValue, topWhole, document}
+use Rattle.members.specs.Members.{Verdict, versionText, topKind, rowKind, awsKind, operatorKind, keyKind, rowSlot}
+use Rattle.members.specs.machinery.Verdicts.{following, add, itself, always, members, eachText, strings, anyText, thisText, operator, condition, awsWhole, principal, rowValue, rowWhole, row, eachRow, rows, topValue, topWhole, document}
 use Rattle.members.specs.Members.Verdict.{fine, refused}
 use Rattle.members.specs.Faults.{Fault, badName, badValue, among, allAmong, memberFaults, textFaults, thisTextFaults, eachTextFaults, stringFaults, operatorFaults, conditionFaults, principalFaults, rowValueFaults, rowFaults, eachRowFaults, rowsFaults, topValueFaults, faults}
 use Rattle.members.proofs.Marked.{Marks, none-met, one-more}

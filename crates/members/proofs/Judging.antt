@@ -11,7 +11,8 @@ use Rattle.json.specs.Trees.Tree.{text, other, list, object, end-list, element,
 use Rattle.json.specs.machinery.Tokens.{Token, flat}
 use Rattle.json.specs.Texts.{ascii}
 use Rattle.json.specs.declared.events.Event.{Event}
-use Rattle.members.specs.Members.{Verdict, following, versionText, topKind, rowKind, awsKind, operatorKind, keyKind, rowSlot, add, isBad, eachText, strings, keys, operator, operators, awsWhole, aws, rowValue, rowWhole, row, eachRow, topValue, topWhole, top, document}
+use Rattle.members.specs.Members.{Verdict, versionText, topKind, rowKind, awsKind, operatorKind, keyKind, rowSlot}
+use Rattle.members.specs.machinery.Verdicts.{following, add, isBad, eachText, strings, keys, operator, operators, awsWhole, aws, rowValue, rowWhole, row, eachRow, topValue, topWhole, top, document}
 use Rattle.members.specs.Members.Verdict.{fine, refused}
 use Rattle.members.specs.machinery.Levels.{at, go, inStrings, behindRow, turnIn, afterTurn, judge}
 use Rattle.members.specs.declared.state.Level.{Level}

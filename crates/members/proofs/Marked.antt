@@ -7,7 +7,7 @@ use native.Mathlib.Nat.{pow-succ', div-one, zero-div, div-div-eq-div-mul}
 use native.Mathlib.Omega.{arith}
 use lib.Bits.{bitOr, or-step, or-shr, or-comm}
 use lib.Dec.{eqb, eqb·zero-suc, eqb·suc-zero, eqb·suc-suc}
-use Rattle.members.specs.Members.{isSeen, add}
+use Rattle.members.specs.machinery.Verdicts.{isSeen, add}
 use Rattle.members.specs.Faults.{among}
 
 abbrev pub Marks : ℕ → List ℕ → Type 0

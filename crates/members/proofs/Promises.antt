@@ -9,8 +9,8 @@ use Rattle.json.specs.Grammar.{Text}
 use Rattle.json.specs.Trees.{treeOf}
 use Rattle.json.specs.machinery.Tokens.{Token}
 use Rattle.json.proofs.Tokenizing.{text-tokens}
-use Rattle.members.specs.Members.{document}
-use Rattle.members.specs.Faults.{Fault, faults}
+use Rattle.members.specs.machinery.Verdicts.{document}
+use Rattle.members.specs.Faults.{Fault, faults, In, Lowest, Says}
 use Rattle.members.specs.machinery.Levels.{at, judge, placed, membersOf}
 use Rattle.members.specs.declared.checking.Checked.{Checked}
 use Rattle.members.specs.declared.checking.Checked.the-variants as C
@@ -25,24 +25,6 @@ pub json-members : (t : List ℕ) (x : Text t) → membersOf t ≡ placed (lengt
 unfolding membersOf
 json-members t x =
     ap (placed (length t)) (ap (λ (ts : List Token). judge ts (at L.Outside 0 0 0 0 0 0 false)) (text-tokens x) ∙ judged (treeOf (x .value-first)))
-
-pub data In (f : Fault) : List Fault → Type 0 where
-  here : {fs : List Fault} → In f (f ∷ fs)
-  later : {g : Fault} {fs : List Fault} → In f fs → In f (g ∷ fs)
-
--- of the faults of a text of so many bytes, this number stands at this place, no fault at a lower one, and no other at the same
-pub record Lowest (size : ℕ) (fs : List Fault) (number place : ℕ) : Type 0 where
-  pub fault : Fault
-  pub is-one : In fault fs
-  pub its-number : fault .number ≡ number
-  pub its-place : size - fault .left ≡ place
-  pub lowest : (g : Fault) → In g fs → place ≤ size - g .left
-  pub only : (g : Fault) → In g fs → size - g .left ≡ place → g ≡ fault
-
--- what an answer says of the faults of a text
-abbrev pub Says : ℕ → List Fault → Checked → Type 0
-Says size fs C.Sound = fs ≡ []
-Says size fs (C.Refused number place) = Lowest size fs number place
 
 behind : {g : Fault} (fs : List Fault) (high low : ℕ) → Falling fs high low → In g fs → g .left < high
 behind (f ∷ fs) high low p In.here = p .1

@@ -1,5 +1,6 @@
 -- All that is wrong with the members of a document, said of its tree: 21 and 22, each at its place, in the order of the text.
-use Prim.Native.Nat.{ℕ}
+use Prim.Native.Nat.{ℕ, _-_, _≤_}
+use mathlib.Core.Path.{_≡_}
 use mathlib.Core.Bool.{Bool, true, false, _&&_, _||_}
 use mathlib.Core.List.{List, [], _∷_, _++_}
 use lib.Dec.{eqb, leb}
@@ -8,6 +9,8 @@ use Rattle.json.specs.Texts.{ascii}
 use Rattle.json.specs.Trees.{Tree}
 use Rattle.json.specs.Trees.Shape.{one, several, named}
 use Rattle.json.specs.Trees.Tree.{text, other, list, object, end-list, element, end-object, member}
+use Rattle.members.specs.declared.checking.Checked.{Checked}
+use Rattle.members.specs.declared.checking.Checked.the-variants as C
 use Rattle.members.specs.Members.{topKind, rowKind, awsKind, operatorKind, keyKind, rowSlot, versionText}
 
 -- its number, and its place as the bytes left there
@@ -124,3 +127,23 @@ topValueFaults k v = pick (eqb k 1) (thisTextFaults versionText v) (rowsFaults v
 -- the document: it needs Version and Statement
 abbrev pub faults : Tree one → List Fault
 faults = objectFaults (memberFaults topKind alone topValueFaults (1 ∷ 2 ∷ []) [])
+
+-- Which of them decides
+
+pub data In (f : Fault) : List Fault → Type 0 where
+  here : {fs : List Fault} → In f (f ∷ fs)
+  later : {g : Fault} {fs : List Fault} → In f fs → In f (g ∷ fs)
+
+-- of the faults of a text of so many bytes, this number stands at this place, no fault at a lower one, and no other at the same
+pub record Lowest (size : ℕ) (fs : List Fault) (number place : ℕ) : Type 0 where
+  pub fault : Fault
+  pub is-one : In fault fs
+  pub its-number : fault .number ≡ number
+  pub its-place : size - fault .left ≡ place
+  pub lowest : (g : Fault) → In g fs → place ≤ size - g .left
+  pub only : (g : Fault) → In g fs → size - g .left ≡ place → g ≡ fault
+
+-- what an answer says of the faults of a text
+abbrev pub Says : ℕ → List Fault → Checked → Type 0
+Says size fs C.Sound = fs ≡ []
+Says size fs (C.Refused number place) = Lowest size fs number place

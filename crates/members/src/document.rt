@@ -14,7 +14,7 @@ ghost use mathlib.Core.List.{[]};
 ghost use lib.ListN.{drop};
 ghost use Rattle.json.specs.machinery.Pieces.{contentOf};
 ghost use Rattle.json.specs.declared.events.Event.the-variants as E;
-ghost use Rattle.members.specs.Members.{topWhole};
+ghost use Rattle.members.specs.machinery.Verdicts.{topWhole};
 ghost use Rattle.members.specs.machinery.Levels.{inTop, inRows};
 
 // Version and Statement were met.

@@ -1,7 +1,8 @@
 // The members met in an object, a bit each.
 ghost use mathlib.Core.Path.{_≡_};
 ghost use Prim.Native.Nat.{_<_};
-ghost use Rattle.members.specs.Members.{isSeen, add, isBad, rowSlot};
+ghost use Rattle.members.specs.Members.{rowSlot};
+ghost use Rattle.members.specs.machinery.Verdicts.{isSeen, add, isBad};
 
 // A member was met.
 pub(crate) fn is_seen(seen: u16, slot: u8) -> bool

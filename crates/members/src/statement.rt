@@ -15,7 +15,7 @@ ghost use mathlib.Core.List.{[]};
 ghost use lib.ListN.{drop};
 ghost use Rattle.json.specs.machinery.Pieces.{contentOf};
 ghost use Rattle.json.specs.declared.events.Event.the-variants as E;
-ghost use Rattle.members.specs.Members.{rowWhole};
+ghost use Rattle.members.specs.machinery.Verdicts.{rowWhole};
 ghost use Rattle.members.specs.machinery.Levels.{behindRow, inRow};
 
 // Effect, a principal, an action and a resource were met.

@@ -1,6 +1,10 @@
 pub mod Gathering
 pub mod Wished
+pub mod Meeting
 pub mod Seeking
+pub mod Sighting
+pub mod Hearing
+pub mod Wishing
 pub mod Addresses
 pub mod Means
 pub mod Streaming

@@ -1,4 +1,4 @@
--- What a walk to a member finds in a tree's tokens.
+-- What a walk to a member finds: token by token, and in a tree's tokens.
 use Prim.Native.Nat.{ℕ, zero, suc, _+_, _-_, _≤_}
 use mathlib.Core.Bool.{Bool, true, false}
 use mathlib.Core.Path.{_≡_, refl, sym, _∙_, ap}
@@ -10,7 +10,8 @@ use Rattle.json.specs.Choice.{pick}
 use Rattle.json.specs.Trees.{Shape, Tree}
 use Rattle.json.specs.Trees.Shape.{one, several, named}
 use Rattle.json.specs.Trees.Tree.{text, other, list, object, end-list, element, end-object, member}
-use Rattle.json.specs.machinery.Tokens.{Token, flat}
+use Rattle.json.specs.machinery.Pieces.{contentOf}
+use Rattle.json.specs.machinery.Tokens.{Token, mark, flat}
 use Rattle.json.specs.declared.events.Event.{Event}
 use Rattle.json.specs.declared.events.Event.the-variants as E
 use Rattle.records.specs.machinery.Walkers.{Sought, kindIn, slotIn, seekTurn, afterMove, seek}
@@ -47,6 +48,23 @@ near w slot d E.CloseObject x = by (eqb d 0)
     by : (a : Bool) → depthOf (pick a M.Gone (M.On (d - 1))) ≤ d + 1
     by true = omega arith
     by false = omega arith
+
+meets : (w : Table) (slot : ℕ) (e : Event) (n : ℕ) (s : List ℕ) (ts : List Token) (d : ℕ)
+    → seek w slot (mark e n s ts) d ≡ afterMove (seek w slot ts) ts (seekTurn w slot d e (contentOf s))
+meets w slot E.Nothing n s ts d = refl
+meets w slot E.Name n s ts d = refl
+meets w slot E.Text n s ts d = refl
+meets w slot E.Other n s ts d = refl
+meets w slot E.OpenList n s ts d = refl
+meets w slot E.CloseList n s ts d = refl
+meets w slot E.OpenObject n s ts d = refl
+meets w slot E.CloseObject n s ts d = refl
+
+-- one token of the walk
+pub moves : (w : Table) (slot : ℕ) (us : List Token) (e : Event) (n : ℕ) (s : List ℕ) (ts : List Token) (d : ℕ) {x : Moved}
+    → us ≡ mark e n s ts → seekTurn w slot d e (contentOf s) ≡ x → seek w slot us d ≡ afterMove (seek w slot ts) ts x
+moves w slot us e n s ts d met turn =
+    ap (λ (vs : List Token). seek w slot vs d) met ∙ meets w slot e n s ts d ∙ ap (afterMove (seek w slot ts) ts) turn
 
 abbrev inside : Shape → ℕ → ℕ
 inside one d = d

@@ -10,7 +10,8 @@ use Rattle.json.specs.Texts.{ascii}
 use Rattle.json.specs.declared.events.Event.{Event}
 use Rattle.json.specs.declared.events.Event.the-variants as E
 use Rattle.json.specs.machinery.Tokens.Token.{name, text, other, open-list, close-list, open-object, close-object}
-use Rattle.members.specs.Members.{Verdict, versionText, topKind, rowKind, awsKind, operatorKind, keyKind, rowSlot, add, isBad, awsWhole, rowWhole, topWhole}
+use Rattle.members.specs.Members.{Verdict, versionText, topKind, rowKind, awsKind, operatorKind, keyKind, rowSlot}
+use Rattle.members.specs.machinery.Verdicts.{add, isBad, awsWhole, rowWhole, topWhole}
 use Rattle.members.specs.Members.Verdict.{fine, refused}
 use Rattle.members.specs.declared.state.Level.{Level}
 use Rattle.members.specs.declared.state.Level.the-variants as L

@@ -250,10 +250,9 @@ nextWishes t N.Done = []
 abbrev pub firstCursor : Cursor
 firstCursor = record { stage = G.Begin; here = startMark; row = startMark; listed = false }
 
--- a place that is not behind the end, and says the same bytes left
+-- a place, or the end where it lies behind that
 pub record Clipped (size from to : ℕ) : Type 0 where
   pub inside : to ≤ size
-  pub same : size - to ≡ size - from
   pub kept : from ≤ size → to ≡ from
   pub cut : size < from → to ≡ size
 

@@ -1,0 +1,52 @@
+use mathlib.Core.Path.{_≡_, sym, _∙_, ap, subst}
+use Rattle.json.specs.machinery.Marks.{tokensAt}
+use Rattle.records.specs.machinery.Walkers.{Sought, told}
+use Rattle.records.specs.machinery.Streams.{elementFrom}
+use Rattle.records.specs.machinery.Cursors.{behindRow, actionPart}
+use borrow.Author.Needs.{needs}
+use Rattle.records.proofs.cursor.principal.Statement.{statement}
+use Rattle.records.proofs.cursor.principal.Tie as tie
+use Rattle.records.proofs.cursor.principal.Reads as reads
+use Rattle.records.proofs.cursor.principal.Lts as lts
+use Rattle.records.proofs.cursor.action.Reads as action-reads
+use Rattle.records.proofs.cursor.column.Reads as column-reads
+use Rattle.records.proofs.walking.seek_member.Reads as seek-member-reads
+
+seek-member-requires : tie.Need-seek-member-requires
+seek-member-requires c κs = search needs
+
+enum-told : tie.Need-enum-told
+enum-told c = search needs
+
+action-requires : tie.Need-action-requires
+action-requires c κs = search needs
+
+enum-known-kind : tie.Need-enum-known-kind
+enum-known-kind c = search needs
+
+column-requires : tie.Need-column-requires
+column-requires c κs = search needs
+
+returns : tie.Need-returns
+returns c =
+    let a = c .before .before .before .before .before .args in
+    let text = a .text .now in
+    ap (λ (x : Sought). elementFrom x (actionPart (tokensAt text (a .row)) (behindRow text (a .row) (a .listed)))) (sym (c .before .before .before .seek-member .ensures) ∙ ap (told text) (c .before .enum-told .given .1)) ∙ c .action .ensures
+
+returns-2 : tie.Need-returns-2
+returns-2 c =
+    let a = c .before .before .before .before .before .before .args in
+    let text = a .text .now in
+    ap (λ (x : Sought). elementFrom x (actionPart (tokensAt text (a .row)) (behindRow text (a .row) (a .listed)))) (sym (c .before .before .before .before .seek-member .ensures) ∙ ap (told text) (c .before .before .kind .given .1)) ∙ c .column .ensures
+
+pub principal-spec : {M : Type 1} → statement M
+principal-spec =
+    tie.close
+    (tie.spec
+    seek-member-requires
+    enum-told
+    action-requires
+    enum-known-kind
+    column-requires
+    returns
+    returns-2)

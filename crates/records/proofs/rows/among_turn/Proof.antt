@@ -1,0 +1,94 @@
+use mathlib.Core.Path.{sym, _∙_}
+use borrow.Author.Needs.{needs}
+use Rattle.records.proofs.rows.among_turn.Statement.{statement}
+use Rattle.records.proofs.rows.among_turn.Tie as tie
+use Rattle.records.proofs.rows.among_turn.Reads as reads
+use Rattle.records.proofs.rows.among_turn.Lts as lts
+use Rattle.records.proofs.rows.deeper.Reads as deeper-reads
+use Rattle.records.proofs.rows.higher.Reads as higher-reads
+use Rattle.records.proofs.rows.object.Reads as object-reads
+
+enum-told : tie.Need-enum-told
+enum-told c = search needs
+
+enum-told-2 : tie.Need-enum-told-2
+enum-told-2 c = search needs
+
+enum-told-3 : tie.Need-enum-told-3
+enum-told-3 c = search needs
+
+enum-told-4 : tie.Need-enum-told-4
+enum-told-4 c = search needs
+
+enum-told-5 : tie.Need-enum-told-5
+enum-told-5 c = search needs
+
+deeper-requires : tie.Need-deeper-requires
+deeper-requires c κs = search needs
+
+enum-told-6 : tie.Need-enum-told-6
+enum-told-6 c = search needs
+
+higher-requires : tie.Need-higher-requires
+higher-requires c κs = search needs
+
+enum-told-7 : tie.Need-enum-told-7
+enum-told-7 c = search needs
+
+object-requires : tie.Need-object-requires
+object-requires c κs = search needs
+
+enum-told-8 : tie.Need-enum-told-8
+enum-told-8 c = search needs
+
+higher-requires-2 : tie.Need-higher-requires-2
+higher-requires-2 c κs = search needs
+
+returns : tie.Need-returns
+returns c = simp (c .enum-told .given .1)
+
+returns-2 : tie.Need-returns-2
+returns-2 c = simp (c .enum-told2 .given .1)
+
+returns-3 : tie.Need-returns-3
+returns-3 c = simp (c .enum-told3 .given .1)
+
+returns-4 : tie.Need-returns-4
+returns-4 c = simp (c .enum-told4 .given .1)
+
+returns-5 : tie.Need-returns-5
+returns-5 c = simp (c .before .enum-told5 .given .1, c .deeper .ensures)
+
+returns-6 : tie.Need-returns-6
+returns-6 c = simp (c .before .enum-told6 .given .1, c .higher .ensures)
+
+returns-7 : tie.Need-returns-7
+returns-7 c = simp (c .before .enum-told7 .given .1, c .object .ensures)
+
+returns-8 : tie.Need-returns-8
+returns-8 c = simp (c .before .enum-told8 .given .1, c .higher2 .ensures)
+
+pub among-turn-spec : {M : Type 1} → statement M
+among-turn-spec =
+    tie.close
+    (tie.spec
+    enum-told
+    enum-told-2
+    enum-told-3
+    enum-told-4
+    enum-told-5
+    deeper-requires
+    enum-told-6
+    higher-requires
+    enum-told-7
+    object-requires
+    enum-told-8
+    higher-requires-2
+    returns
+    returns-2
+    returns-3
+    returns-4
+    returns-5
+    returns-6
+    returns-7
+    returns-8)
