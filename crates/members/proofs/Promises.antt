@@ -12,6 +12,8 @@ use Rattle.json.proofs.Tokenizing.{text-tokens}
 use Rattle.members.specs.Members.{document}
 use Rattle.members.specs.Faults.{MemberFault, faults, Behind, Decides}
 use Rattle.members.specs.machinery.Levels.{at, judge, placed, membersOf}
+use Rattle.members.specs.declared.checking.Checked.{Checked}
+use Rattle.members.specs.declared.checking.Checked.the-variants as C
 use Rattle.members.specs.declared.state.Level.the-variants as L
 use Rattle.members.proofs.Judging.{judged}
 use Rattle.members.proofs.FirstFault.{first, first-fault}
@@ -47,3 +49,14 @@ json-lowest t x =
     let falls = faults-fall v (suc (length t)) (suc (length (x .behind))) (in-order (x .value-first) (suc (length t)) (omega arith)) in
     subst (Decides (length t) (faults v)) (sym (json-members t x ∙ ap (placed (length t)) (first-fault v)))
     (first-decides (length t) (suc (length (x .behind))) (faults v) falls)
+
+-- The faults decide one answer.
+pub one-decision : (size : ℕ) (fs : List MemberFault) (a b : Checked) → Decides size fs a → Decides size fs b → a ≡ b
+one-decision size fs C.Sound C.Sound p q = refl
+one-decision size fs C.Sound (C.Refused k n) p q = absurd (let z : _≡_ {A = ℕ} 0 1 = cc (p, q .both) in omega arith)
+one-decision size fs (C.Refused k n) C.Sound p q = absurd (let z : _≡_ {A = ℕ} 0 1 = cc (p .both, q) in omega arith)
+one-decision size fs (C.Refused k n) (C.Refused l m) p q =
+    let same : p .fault ≡ q .fault = cc in
+    let numbers : k ≡ l = sym (p .its-number) ∙ ap (λ (f : MemberFault). f .number) same ∙ q .its-number in
+    let places : n ≡ m = omega (arith, ap (λ (f : MemberFault). f .left) same) in
+    rw (numbers, places)
