@@ -1,6 +1,6 @@
 -- What the verdict on a document names is the first of its faults.
 use Prim.Native.Nat.{ℕ}
-use mathlib.Core.Path.{_≡_, refl, sym, _∙_}
+use mathlib.Core.Path.{_≡_, refl, sym, _∙_, ap}
 use mathlib.Core.Bool.{Bool, true, false, _&&_, _||_}
 use mathlib.Core.List.{List, [], _∷_, _++_}
 use lib.Dec.{eqb, leb}
@@ -149,3 +149,6 @@ first-fault (text n bs) = refl
 first-fault (other n) = refl
 first-fault (list n es) = refl
 first-fault (object n ms) = in-object topKind itself topValue topValueFaults topWhole (1 ∷ 2 ∷ []) in-top-value top-needs ms 0 [] none-met
+
+pub no-fault : (v : Tree one) → faults v ≡ [] → document v ≡ fine
+no-fault v e = first-fault v ∙ ap first e

@@ -9,8 +9,8 @@ use Rattle.json.specs.Texts.{ascii}
 use Rattle.json.specs.Trees.{Tree}
 use Rattle.json.specs.Trees.Shape.{one, several, named}
 use Rattle.json.specs.Trees.Tree.{text, other, list, object, end-list, element, end-object, member}
-use Rattle.members.specs.Members.{versionText, topKind, rowKind, awsKind, operatorKind, keyKind, rowSlot}
-use Rattle.members.specs.Faults.{MemberFault, badName, badValue, among, allAmong, memberFaults, alone, textFaults, thisTextFaults, eachTextFaults, stringFaults, objectFaults, operatorFaults, conditionFaults, principalFaults, rowValueFaults, rowFaults, eachRowFaults, rowsFaults, topValueFaults, faults}
+use Rattle.members.specs.Members.{versionText, topKind, rowKind, awsKind, operatorKind, keyKind, rowSlot, itself}
+use Rattle.members.specs.Faults.{MemberFault, badName, badValue, among, allAmong, memberFaults, textFaults, thisTextFaults, eachTextFaults, stringFaults, objectFaults, operatorFaults, conditionFaults, principalFaults, rowValueFaults, rowFaults, eachRowFaults, rowsFaults, topValueFaults, faults}
 use Rattle.members.proofs.Places.{InOrder, spans}
 
 abbrev pub Falling : List MemberFault → ℕ → ℕ → Type 0
@@ -88,17 +88,17 @@ module _ (kindOf : List ℕ → ℕ) (slotOf : ℕ → ℕ) (valueFaults : ℕ �
       raised (memberFaults kindOf slotOf valueFaults needed [] ms) n low high (omega arith) (members-fall ms [] n low (p .1))
 
 operator-falls : (k : ℕ) → Falls operatorFaults
-operator-falls k = object-falls keyKind alone (λ k v. stringFaults v) [] (λ k. strings-fall)
+operator-falls k = object-falls keyKind itself (λ k v. stringFaults v) [] (λ k. strings-fall)
 
 condition-falls : Falls conditionFaults
-condition-falls = object-falls operatorKind alone (λ k v. operatorFaults v) [] operator-falls
+condition-falls = object-falls operatorKind itself (λ k v. operatorFaults v) [] operator-falls
 
 principal-falls : Falls principalFaults
 principal-falls (text n bs) high low p = perhaps (sameBytes bs (ascii "*")) n high low (p .0) (p .1)
 principal-falls (other n) high low p = (p .0, p .1, tt)
 principal-falls (list n es) high low p = let e = spans es n low (p .1) in (omega arith, p .0, tt)
 principal-falls (object n ms) high low p =
-    object-falls awsKind alone (λ k v. stringFaults v) (1 ∷ []) (λ k. strings-fall) (object n ms) high low p
+    object-falls awsKind itself (λ k v. stringFaults v) (1 ∷ []) (λ k. strings-fall) (object n ms) high low p
 
 row-value-falls : (k : ℕ) → Falls (rowValueFaults k)
 row-value-falls k v high low p = by (leb k 2) (leb k 4) (leb k 8)
@@ -133,4 +133,4 @@ top-value-falls k v high low p = by (eqb k 1)
     by false = rows-fall v high low p
 
 pub faults-fall : Falls faults
-faults-fall = object-falls topKind alone topValueFaults (1 ∷ 2 ∷ []) top-value-falls
+faults-fall = object-falls topKind itself topValueFaults (1 ∷ 2 ∷ []) top-value-falls

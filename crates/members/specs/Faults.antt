@@ -9,7 +9,7 @@ use Rattle.json.specs.Texts.{ascii}
 use Rattle.json.specs.Trees.{Tree}
 use Rattle.json.specs.Trees.Shape.{one, several, named}
 use Rattle.json.specs.Trees.Tree.{text, other, list, object, end-list, element, end-object, member}
-use Rattle.members.specs.Members.{topKind, rowKind, awsKind, operatorKind, keyKind, rowSlot, versionText}
+use Rattle.members.specs.Members.{topKind, rowKind, awsKind, operatorKind, keyKind, rowSlot, itself, versionText}
 use Rattle.members.specs.declared.checking.Checked.{Checked}
 use Rattle.members.specs.declared.checking.Checked.the-variants as C
 
@@ -28,6 +28,7 @@ badValue n = record { number = 22; left = n } ∷ []
 
 -- What an object may have
 
+-- a member is among those met; all that are needed are
 abbrev pub among : List ℕ → ℕ → Bool
 among [] slot = false
 among (s ∷ seen) slot = eqb slot s || among seen slot
@@ -44,10 +45,6 @@ module _ (kindOf : List ℕ → ℕ) (slotOf : ℕ → ℕ) (valueFaults : ℕ �
       pick (eqb (kindOf x) 0) (badName n ++ memberFaults seen ms)
       (pick (among seen (slotOf (kindOf x))) (badName n) []
       ++ (valueFaults (kindOf x) v ++ memberFaults (slotOf (kindOf x) ∷ seen) ms))
-
--- each member counts as itself
-abbrev pub alone : ℕ → ℕ
-alone k = k
 
 -- Types
 
@@ -87,18 +84,18 @@ objectFaults inside (object n ms) = inside ms
 
 -- what an operator holds: keys, each with strings
 abbrev pub operatorFaults : Tree one → List MemberFault
-operatorFaults = objectFaults (memberFaults keyKind alone (λ k v. stringFaults v) [] [])
+operatorFaults = objectFaults (memberFaults keyKind itself (λ k v. stringFaults v) [] [])
 
 -- Condition: operators
 abbrev pub conditionFaults : Tree one → List MemberFault
-conditionFaults = objectFaults (memberFaults operatorKind alone (λ k v. operatorFaults v) [] [])
+conditionFaults = objectFaults (memberFaults operatorKind itself (λ k v. operatorFaults v) [] [])
 
 -- a principal: the string *, or an object with the one member AWS, which holds strings
 abbrev pub principalFaults : Tree one → List MemberFault
 principalFaults (text n bs) = pick (sameBytes bs (ascii "*")) [] (badValue n)
 principalFaults (other n) = badValue n
 principalFaults (list n es) = badValue n
-principalFaults (object n ms) = memberFaults awsKind alone (λ k v. stringFaults v) (1 ∷ []) [] ms
+principalFaults (object n ms) = memberFaults awsKind itself (λ k v. stringFaults v) (1 ∷ []) [] ms
 
 -- a statement's members: Sid and Effect (1, 2), the principals (3, 4), actions and resources (5 to 8), Condition (9)
 abbrev pub rowValueFaults : ℕ → Tree one → List MemberFault
@@ -126,7 +123,7 @@ topValueFaults k v = pick (eqb k 1) (thisTextFaults versionText v) (rowsFaults v
 
 -- the document: it needs Version and Statement
 abbrev pub faults : Tree one → List MemberFault
-faults = objectFaults (memberFaults topKind alone topValueFaults (1 ∷ 2 ∷ []) [])
+faults = objectFaults (memberFaults topKind itself topValueFaults (1 ∷ 2 ∷ []) [])
 
 -- Which fault decides
 
