@@ -19,8 +19,9 @@ use Rattle.stored.specs.declared.items.Operator.{Operator}
 use Rattle.stored.specs.declared.items.Key.{Key}
 use Rattle.stored.specs.declared.items.Sort.{Sort}
 use Rattle.stored.specs.declared.items.Sort.the-variants as S
-use Rattle.members.specs.Members as Mb
-use Rattle.members.specs.Members.{Verdict, following, place, topKind, rowKind, rowSlot, awsKind, operatorKind, keyKind, isSeen, add, isBad}
+use Rattle.members.specs.machinery.Verdicts as Mb
+use Rattle.members.specs.Members.{Verdict, place, topKind, rowKind, rowSlot, awsKind, operatorKind, keyKind}
+use Rattle.members.specs.machinery.Verdicts.{following, isSeen, add, isBad}
 use Rattle.members.specs.Members.Verdict.{fine, refused}
 use Rattle.records.specs.Documents.{Found, held, stated, eachStatement, statementsUnder, under, marked, membersOf, holder, same, bytes, operatorAt, keyAt, columnAt}
 use Rattle.records.specs.Wishes.{Wish, stringWish, eachWish, listWishes, valueWishes, effectWish, elementWishes, keyWishes, operatorWishes, statementWishes, rowWishes, rowsWishes, wishes}

@@ -16,6 +16,9 @@ use Rattle.stored.specs.declared.machine.Turn.the-variants as T
 use Rattle.stored.specs.declared.writer.Writer.{Writer}
 use Rattle.stored.specs.declared.writer.WriteAnswer.{WriteAnswer}
 use Rattle.stored.specs.declared.writer.WriteAnswer.the-variants as A
+use Rattle.stored.specs.declared.machine.State.{State}
+use Rattle.stored.specs.declared.writer.Would.{Would}
+use Rattle.stored.specs.declared.writer.Would.the-variants as D
 
 -- a writer that has written nothing
 abbrev pub freshWriter : Writer
@@ -46,3 +49,11 @@ writing w i bs room = placing (w .at) (admitItem (w .state) i bs) (length (recor
 abbrev pub bufferAfter : ℕ → List ℕ → List ℕ → WriteAnswer → List ℕ
 bufferAfter at bytes buffer (A.Added w) = sets buffer at bytes
 bufferAfter at bytes buffer (A.Refused n place) = buffer
+
+-- what an item would lead to, and how many bytes its record would take, without a buffer
+abbrev pub wouldTake : Turn → ℕ → Would
+wouldTake (T.Next s) size = D.Takes s size
+wouldTake (T.Refused n) size = D.Refused n
+
+unfoldable pub wouldWrite : State → Item → List ℕ → Would
+wouldWrite s i bs = wouldTake (admitItem s i bs) (length (recordOf i bs))

@@ -14,7 +14,7 @@ ghost use Prim.Native.Nat.{_+_, _≤_};
 ghost use mathlib.Core.List.{[]};
 ghost use lib.ListN.{length};
 ghost use lib.Seq.{sets};
-ghost use Rattle.stored.specs.Writing.{freshWriter, recordOf, placing, writing, bufferAfter};
+ghost use Rattle.stored.specs.Writing.{freshWriter, recordOf, placing, writing, bufferAfter, wouldWrite};
 ghost use Rattle.stored.specs.machinery.Placing.{HasKind};
 
 // A writer between two items: the state machine's state, and the bytes written so far.
@@ -27,6 +27,14 @@ pub enum WriteAnswer {
     Added(Writer),
     // The number of the refusal, and its place.
     Refused(u8, usize),
+}
+
+// What a writer would answer without a buffer.
+pub enum Would {
+    // The next state, and the length of the record.
+    Takes(State, usize),
+    // The number of the refusal.
+    Refused(u8),
 }
 
 // A writer that has written nothing.
@@ -156,5 +164,15 @@ pub fn write(writer: Writer, item: Item, bytes: &[u8], buffer: &mut [u8]) -> Wri
     match admit(state, item, bytes) {
         Turn::Next(next) => place(next, at, item, bytes, buffer),
         Turn::Refused(number) => WriteAnswer::Refused(number, at),
+    }
+}
+
+// What an item would lead to: the next state and the length of its record, or the refusal that a writer in this state gives before 1 and 14.
+pub fn would_write(state: State, item: Item, bytes: &[u8]) -> Would
+    ensures { λ r. ⌜ r ≡ wouldWrite state item (now (bytes .entry)) ⌝ }
+{
+    match admit(state, item, bytes) {
+        Turn::Next(next) => Would::Takes(next, record_length(item, bytes)),
+        Turn::Refused(number) => Would::Refused(number),
     }
 }

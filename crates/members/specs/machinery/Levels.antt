@@ -1,16 +1,17 @@
--- 21 and 22, by one pass over the tokens.
+-- The first 21 or 22 of a document, by one pass over its tokens: what a token leads to, level by level.
 use Prim.Native.Nat.{ℕ, _-_}
 use mathlib.Core.Bool.{Bool, true, false}
 use mathlib.Core.List.{List, [], _∷_}
 use lib.ListN.{length}
 use lib.Dec.{eqb, leb}
-use Rattle.json.specs.Choice.{pick}
+use Rattle.json.specs.Choice.{pick, sameBytes}
 use Rattle.json.specs.machinery.Tokens.{Token, tokensOf}
-use Rattle.json.specs.Choice.{sameBytes}
+use Rattle.json.specs.Texts.{ascii}
 use Rattle.json.specs.declared.events.Event.{Event}
 use Rattle.json.specs.declared.events.Event.the-variants as E
 use Rattle.json.specs.machinery.Tokens.Token.{name, text, other, open-list, close-list, open-object, close-object}
-use Rattle.members.specs.Members.{Verdict, versionText, topKind, rowKind, awsKind, operatorKind, keyKind, rowSlot, isSeen, add, isBad, awsWhole, rowWhole, topWhole}
+use Rattle.members.specs.Members.{Verdict, versionText, topKind, rowKind, awsKind, operatorKind, keyKind, rowSlot}
+use Rattle.members.specs.machinery.Verdicts.{add, isBad, awsWhole, rowWhole, topWhole}
 use Rattle.members.specs.Members.Verdict.{fine, refused}
 use Rattle.members.specs.declared.state.Level.{Level}
 use Rattle.members.specs.declared.state.Level.the-variants as L
@@ -20,6 +21,7 @@ use Rattle.members.specs.declared.checking.Checked.the-variants as C
 use Rattle.members.specs.declared.state.Turn.{Turn}
 use Rattle.members.specs.declared.state.Turn.the-variants as T
 
+-- where a token stands
 abbrev pub placeOf : Token → ℕ
 placeOf (name n bs) = n
 placeOf (text n bs) = n
@@ -99,7 +101,7 @@ inRow s E.Name bs =
     (go L.Row (rowKind bs) (s .top) (add (s .row) (rowSlot (rowKind bs))) 0 0 0 (s .listed))
 inRow s E.Text bs =
     pick (leb (s .due) 2) (go L.Row 0 (s .top) (s .row) 0 0 0 (s .listed))
-    (pick (leb (s .due) 4) (pick (sameBytes bs (0x2A ∷ [])) (go L.Row 0 (s .top) (s .row) 0 0 0 (s .listed)) (T.Refused 22))
+    (pick (leb (s .due) 4) (pick (sameBytes bs (ascii "*")) (go L.Row 0 (s .top) (s .row) 0 0 0 (s .listed)) (T.Refused 22))
     (pick (leb (s .due) 8) (go L.Row 0 (s .top) (s .row) 0 0 0 (s .listed)) (T.Refused 22)))
 inRow s E.Other bs = T.Refused 22
 inRow s E.OpenList bs =

@@ -1,10 +1,10 @@
-use mathlib.Core.Path.{sym, _∙_}
+-- `members::levels::in_strings` meets its contract: the arms are those of `inStrings`.
 use borrow.Author.Needs.{needs}
 use Rattle.members.proofs.levels.in_strings.Statement.{statement}
 use Rattle.members.proofs.levels.in_strings.Tie as tie
 use Rattle.members.proofs.levels.in_strings.Reads as reads
 use Rattle.members.proofs.levels.in_strings.Lts as lts
-use Rattle.members.proofs.levels.next.Reads as next-reads
+use Rattle.members.proofs.state.next.Reads as next-reads
 
 enum-told : tie.Need-enum-told
 enum-told c = search needs

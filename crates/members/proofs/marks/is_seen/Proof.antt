@@ -1,5 +1,6 @@
+-- `members::marks::is_seen` meets its contract: a shift is a division, and the lowest bit is left.
 use mathlib.Core.Path.{refl}
-use Rattle.members.specs.Members.{isSeen}
+use Rattle.members.specs.machinery.Verdicts.{isSeen}
 use borrow.Author.Needs.{needs}
 use Rattle.members.proofs.marks.is_seen.Statement.{statement}
 use Rattle.members.proofs.marks.is_seen.Tie as tie

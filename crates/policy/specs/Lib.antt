@@ -1,0 +1,4 @@
+-- What the reader of policies answers.
+-- The promises rest on these definitions, and none of these on machinery.
+pub mod Answers
+pub mod machinery
