@@ -37,7 +37,7 @@ pub json-first-fault : (t buffer left : List ℕ) (p : ℕ) → Answered t buffe
 json-first-fault t buffer left p = (λ x. by x refl, λ f. rw (f .1) (no-text (f .0)))
   where
     by : {r : JsonAnswer} {rest : List ℕ} → Answered t buffer r rest → r ≡ A.Refused 20 p → FirstFault t p × (rest ≡ buffer)
-    by (no-text {q} f) e = let same : q ≡ p = cc in (rw (sym same) f, refl)
+    by (no-text {p = q} f) e = let same : q ≡ p = cc in (rw (sym same) f, refl)
     by (wrong-member {k} x l) e =
         let same : k ≡ 20 = cc in
         absurd (omega (arith, member-number (documentOf x) (l .fault) (l .is-one), l .its-number))
