@@ -1,6 +1,6 @@
 -- What the verdict on a document names is the first of its faults.
 use Prim.Native.Nat.{ℕ}
-use mathlib.Core.Path.{_≡_, refl, sym, _∙_}
+use mathlib.Core.Path.{_≡_, refl, sym, _∙_, ap}
 use mathlib.Core.Bool.{Bool, true, false, _&&_, _||_}
 use mathlib.Core.List.{List, [], _∷_, _++_}
 use lib.Dec.{eqb, leb}
@@ -9,17 +9,17 @@ use Rattle.json.specs.Texts.{ascii}
 use Rattle.json.specs.Trees.{Tree}
 use Rattle.json.specs.Trees.Shape.{one, several, named}
 use Rattle.json.specs.Trees.Tree.{text, other, list, object, end-list, element, end-object, member}
-use Rattle.members.specs.Members.{Verdict, versionText, topKind, rowKind, awsKind, operatorKind, keyKind, rowSlot}
-use Rattle.members.specs.machinery.Verdicts.{following, add, itself, always, members, eachText, strings, anyText, thisText, operator, condition, awsWhole, principal, rowValue, rowWhole, row, eachRow, rows, topValue, topWhole, document}
+use Rattle.members.specs.Members.{Verdict, versionText, topKind, rowKind, awsKind, operatorKind, keyKind, rowSlot, itself}
+use Rattle.members.specs.machinery.Verdicts.{following, add, always, members, eachText, strings, anyText, thisText, operator, condition, awsWhole, principal, rowValue, rowWhole, row, eachRow, rows, topValue, topWhole, document}
 use Rattle.members.specs.Members.Verdict.{fine, refused}
-use Rattle.members.specs.Faults.{Fault, badName, badValue, among, allAmong, memberFaults, textFaults, thisTextFaults, eachTextFaults, stringFaults, operatorFaults, conditionFaults, principalFaults, rowValueFaults, rowFaults, eachRowFaults, rowsFaults, topValueFaults, faults}
-use Rattle.members.proofs.Marked.{Marks, none-met, one-more}
+use Rattle.members.specs.Faults.{MemberFault, badName, badValue, among, allAmong, memberFaults, textFaults, thisTextFaults, eachTextFaults, stringFaults, operatorFaults, conditionFaults, principalFaults, rowValueFaults, rowFaults, eachRowFaults, rowsFaults, topValueFaults, faults}
+use Rattle.members.proofs.Marked.{SameMarks, none-met, one-more}
 
-abbrev pub first : List Fault → Verdict
+abbrev pub first : List MemberFault → Verdict
 first [] = fine
 first (f ∷ fs) = refused (f .number) (f .left)
 
-first-of-two : (fs gs : List Fault) → first (fs ++ gs) ≡ following (first fs) (first gs)
+first-of-two : (fs gs : List MemberFault) → first (fs ++ gs) ≡ following (first fs) (first gs)
 first-of-two [] gs = refl
 first-of-two (f ∷ fs) gs = refl
 
@@ -28,17 +28,17 @@ closes : (whole : Bool) (n : ℕ) → pick whole fine (refused 22 n) ≡ first (
 closes true n = refl
 closes false n = refl
 
-names : (unknown twice : Bool) (n : ℕ) (c m : Verdict) (others fs gs : List Fault) → c ≡ first fs → m ≡ first gs
+names : (unknown twice : Bool) (n : ℕ) (c m : Verdict) (others fs gs : List MemberFault) → c ≡ first fs → m ≡ first gs
     → pick (unknown || twice) (refused 21 n) (following c m)
     ≡ first (pick unknown (badName n ++ others) (pick twice (badName n) [] ++ (fs ++ gs)))
 names true twice n c m others fs gs e f = refl
 names false true n c m others fs gs e f = refl
 names false false n c m others fs gs e f = rw (e, f) (sym (first-of-two fs gs))
 
-module _ (kindOf : List ℕ → ℕ) (slotOf : ℕ → ℕ) (check : ℕ → Tree one → Verdict) (valueFaults : ℕ → Tree one → List Fault)
+module _ (kindOf : List ℕ → ℕ) (slotOf : ℕ → ℕ) (check : ℕ → Tree one → Verdict) (valueFaults : ℕ → Tree one → List MemberFault)
     (whole : ℕ → Bool) (needed : List ℕ) (checks : (k : ℕ) (v : Tree one) → check k v ≡ first (valueFaults k v))
-    (wholes : (mask : ℕ) (seen : List ℕ) → Marks mask seen → whole mask ≡ allAmong seen needed) where
-  in-object : (ms : Tree named) (mask : ℕ) (seen : List ℕ) → Marks mask seen
+    (wholes : (mask : ℕ) (seen : List ℕ) → SameMarks mask seen → whole mask ≡ allAmong seen needed) where
+  in-object : (ms : Tree named) (mask : ℕ) (seen : List ℕ) → SameMarks mask seen
       → members kindOf slotOf check whole mask ms ≡ first (memberFaults kindOf slotOf valueFaults needed seen ms)
   in-object (end-object n) mask seen marks = rw (wholes mask seen marks) (closes (allAmong seen needed) n)
   in-object (member n x v ms) mask seen marks =
@@ -114,7 +114,7 @@ in-row-value k v = by (leb k 2) (leb k 4) (leb k 8)
     by false false true = in-strings k v
     by false false false = in-condition v
 
-row-needs : (mask : ℕ) (seen : List ℕ) → Marks mask seen → rowWhole mask ≡ allAmong seen (2 ∷ 3 ∷ 4 ∷ 5 ∷ [])
+row-needs : (mask : ℕ) (seen : List ℕ) → SameMarks mask seen → rowWhole mask ≡ allAmong seen (2 ∷ 3 ∷ 4 ∷ 5 ∷ [])
 row-needs mask seen marks = rw (marks 2, marks 3, marks 4, marks 5, ← also-true (among seen 5))
 
 in-row : (ms : Tree named) → row 0 ms ≡ first (memberFaults rowKind rowSlot rowValueFaults (2 ∷ 3 ∷ 4 ∷ 5 ∷ []) [] ms)
@@ -142,7 +142,7 @@ in-top-value k v = by (eqb k 1)
     by true = in-version v
     by false = in-rows v
 
-top-needs : (mask : ℕ) (seen : List ℕ) → Marks mask seen → topWhole mask ≡ allAmong seen (1 ∷ 2 ∷ [])
+top-needs : (mask : ℕ) (seen : List ℕ) → SameMarks mask seen → topWhole mask ≡ allAmong seen (1 ∷ 2 ∷ [])
 top-needs mask seen marks = rw (marks 1, marks 2, ← also-true (among seen 2))
 
 pub first-fault : (v : Tree one) → document v ≡ first (faults v)
@@ -150,3 +150,6 @@ first-fault (text n bs) = refl
 first-fault (other n) = refl
 first-fault (list n es) = refl
 first-fault (object n ms) = in-object topKind itself topValue topValueFaults topWhole (1 ∷ 2 ∷ []) in-top-value top-needs ms 0 [] none-met
+
+pub no-fault : (v : Tree one) → faults v ≡ [] → document v ≡ fine
+no-fault v e = first-fault v ∙ ap first e

@@ -7,4 +7,5 @@ pub mod Marked
 pub mod FirstFault
 pub mod Places
 pub mod Order
+pub mod Examples
 pub mod Promises

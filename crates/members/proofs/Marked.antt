@@ -10,8 +10,8 @@ use lib.Dec.{eqb, eqb·zero-suc, eqb·suc-zero, eqb·suc-suc}
 use Rattle.members.specs.machinery.Verdicts.{isSeen, add}
 use Rattle.members.specs.Faults.{among}
 
-abbrev pub Marks : ℕ → List ℕ → Type 0
-Marks mask seen = (slot : ℕ) → isSeen mask slot ≡ among seen slot
+abbrev pub SameMarks : ℕ → List ℕ → Type 0
+SameMarks mask seen = (slot : ℕ) → isSeen mask slot ≡ among seen slot
 
 lowest-or : (r s n q : ℕ) → r < 2 → s < 2 → n ≡ q * 2 + max r s → eqb (n % 2) 1 ≡ (eqb r 1 || eqb s 1)
 lowest-or zero zero n q low small is = ap (λ (m : ℕ). eqb m 1) {x = n % 2} {y = 0} (omega arith)
@@ -51,9 +51,9 @@ seen-power (suc k) (suc j) =
     seen-behind (2 ^ suc k) j ∙ ap (λ (m : ℕ). isSeen m j) {x = 2 ^ suc k / 2} {y = 2 ^ k} (omega (arith, pow-succ' 2 k)) ∙ seen-power k j
     ∙ sym (eqb·suc-suc j k)
 
-pub none-met : Marks 0 []
+pub none-met : SameMarks 0 []
 none-met slot = seen-nothing slot
 
-pub one-more : (mask : ℕ) (seen : List ℕ) (slot : ℕ) → Marks mask seen → Marks (add mask slot) (slot ∷ seen)
+pub one-more : (mask : ℕ) (seen : List ℕ) (slot : ℕ) → SameMarks mask seen → SameMarks (add mask slot) (slot ∷ seen)
 one-more mask seen slot marks other =
     ap (λ (m : ℕ). isSeen m other) (or-comm mask (2 ^ slot)) ∙ seen-or (2 ^ slot) mask other ∙ rw (seen-power slot other, marks other)

@@ -9,25 +9,25 @@ use Rattle.json.specs.Texts.{ascii}
 use Rattle.json.specs.Trees.{Tree}
 use Rattle.json.specs.Trees.Shape.{one, several, named}
 use Rattle.json.specs.Trees.Tree.{text, other, list, object, end-list, element, end-object, member}
-use Rattle.members.specs.Members.{versionText, topKind, rowKind, awsKind, operatorKind, keyKind, rowSlot}
-use Rattle.members.specs.Faults.{Fault, badName, badValue, among, allAmong, memberFaults, alone, textFaults, thisTextFaults, eachTextFaults, stringFaults, objectFaults, operatorFaults, conditionFaults, principalFaults, rowValueFaults, rowFaults, eachRowFaults, rowsFaults, topValueFaults, faults}
-use Rattle.members.proofs.Places.{Placed, spans}
+use Rattle.members.specs.Members.{versionText, topKind, rowKind, awsKind, operatorKind, keyKind, rowSlot, itself}
+use Rattle.members.specs.Faults.{MemberFault, badName, badValue, among, allAmong, memberFaults, textFaults, thisTextFaults, eachTextFaults, stringFaults, objectFaults, operatorFaults, conditionFaults, principalFaults, rowValueFaults, rowFaults, eachRowFaults, rowsFaults, topValueFaults, faults}
+use Rattle.members.proofs.Places.{InOrder, spans}
 
-abbrev pub Falling : List Fault → ℕ → ℕ → Type 0
+abbrev pub Falling : List MemberFault → ℕ → ℕ → Type 0
 Falling [] high low = Unit {0}
 Falling (f ∷ fs) high low = (low ≤ f .left) × (f .left < high) × Falling fs (f .left) low
 
-raised : (fs : List Fault) (high low more : ℕ) → high ≤ more → Falling fs high low → Falling fs more low
+raised : (fs : List MemberFault) (high low more : ℕ) → high ≤ more → Falling fs high low → Falling fs more low
 raised [] high low more h p = tt
 raised (f ∷ fs) high low more h p = (p .0, omega arith, p .2)
 
-both : (fs gs : List Fault) (high mid low : ℕ) → low ≤ mid → mid ≤ high → Falling fs high mid → Falling gs mid low → Falling (fs ++ gs) high low
+both : (fs gs : List MemberFault) (high mid low : ℕ) → low ≤ mid → mid ≤ high → Falling fs high mid → Falling gs mid low → Falling (fs ++ gs) high low
 both [] gs high mid low a b p q = raised gs mid low high b q
 both (f ∷ fs) gs high mid low a b p q = (omega arith, p .1, both fs gs (f .left) mid low a (p .0) (p .2) q)
 
 -- what a value of a sort holds falls where its places do
-abbrev Falls : (Tree one → List Fault) → Type 0
-Falls of = (v : Tree one) (high low : ℕ) → Placed v high low → Falling (of v) high low
+abbrev Falls : (Tree one → List MemberFault) → Type 0
+Falls of = (v : Tree one) (high low : ℕ) → InOrder v high low → Falling (of v) high low
 
 text-falls : Falls textFaults
 text-falls (text n bs) high low p = tt
@@ -45,7 +45,7 @@ this-falls x (other n) high low p = (p .0, p .1, tt)
 this-falls x (list n es) high low p = let e = spans es n low (p .1) in (omega arith, p .0, tt)
 this-falls x (object n ms) high low p = let e = spans ms n low (p .1) in (omega arith, p .0, tt)
 
-each-falls : (es : Tree several) (high low : ℕ) → Placed es high low → Falling (eachTextFaults es) high low
+each-falls : (es : Tree several) (high low : ℕ) → InOrder es high low → Falling (eachTextFaults es) high low
 each-falls (end-list n) high low p = tt
 each-falls (element v es) high low p =
     let a = spans v high (p .0) (p .1) in
@@ -59,16 +59,16 @@ strings-fall (list n es) high low p = raised (eachTextFaults es) n low high (ome
 strings-fall (object n ms) high low p = let e = spans ms n low (p .1) in (omega arith, p .0, tt)
 
 -- an object's members
-member-falls : (unknown twice : Bool) (n : ℕ) (others fs gs : List Fault) (high mid low : ℕ) → low ≤ mid → mid ≤ n → n < high
+member-falls : (unknown twice : Bool) (n : ℕ) (others fs gs : List MemberFault) (high mid low : ℕ) → low ≤ mid → mid ≤ n → n < high
     → Falling others mid low → Falling fs n mid → Falling gs mid low
     → Falling (pick unknown (badName n ++ others) (pick twice (badName n) [] ++ (fs ++ gs))) high low
 member-falls true twice n others fs gs high mid low a b c p q r = (omega arith, c, raised others mid low n b p)
 member-falls false true n others fs gs high mid low a b c p q r = (omega arith, c, both fs gs n mid low a b q r)
 member-falls false false n others fs gs high mid low a b c p q r = raised (fs ++ gs) n low high (omega arith) (both fs gs n mid low a b q r)
 
-module _ (kindOf : List ℕ → ℕ) (slotOf : ℕ → ℕ) (valueFaults : ℕ → Tree one → List Fault) (needed : List ℕ)
+module _ (kindOf : List ℕ → ℕ) (slotOf : ℕ → ℕ) (valueFaults : ℕ → Tree one → List MemberFault) (needed : List ℕ)
     (falls : (k : ℕ) → Falls (valueFaults k)) where
-  members-fall : (ms : Tree named) (seen : List ℕ) (high low : ℕ) → Placed ms high low
+  members-fall : (ms : Tree named) (seen : List ℕ) (high low : ℕ) → InOrder ms high low
       → Falling (memberFaults kindOf slotOf valueFaults needed seen ms) high low
   members-fall (end-object n) seen high low p = perhaps (allAmong seen needed) n high low (p .0) (p .1)
   members-fall (member n x v ms) seen high low p =
@@ -88,17 +88,17 @@ module _ (kindOf : List ℕ → ℕ) (slotOf : ℕ → ℕ) (valueFaults : ℕ �
       raised (memberFaults kindOf slotOf valueFaults needed [] ms) n low high (omega arith) (members-fall ms [] n low (p .1))
 
 operator-falls : (k : ℕ) → Falls operatorFaults
-operator-falls k = object-falls keyKind alone (λ k v. stringFaults v) [] (λ k. strings-fall)
+operator-falls k = object-falls keyKind itself (λ k v. stringFaults v) [] (λ k. strings-fall)
 
 condition-falls : Falls conditionFaults
-condition-falls = object-falls operatorKind alone (λ k v. operatorFaults v) [] operator-falls
+condition-falls = object-falls operatorKind itself (λ k v. operatorFaults v) [] operator-falls
 
 principal-falls : Falls principalFaults
 principal-falls (text n bs) high low p = perhaps (sameBytes bs (ascii "*")) n high low (p .0) (p .1)
 principal-falls (other n) high low p = (p .0, p .1, tt)
 principal-falls (list n es) high low p = let e = spans es n low (p .1) in (omega arith, p .0, tt)
 principal-falls (object n ms) high low p =
-    object-falls awsKind alone (λ k v. stringFaults v) (1 ∷ []) (λ k. strings-fall) (object n ms) high low p
+    object-falls awsKind itself (λ k v. stringFaults v) (1 ∷ []) (λ k. strings-fall) (object n ms) high low p
 
 row-value-falls : (k : ℕ) → Falls (rowValueFaults k)
 row-value-falls k v high low p = by (leb k 2) (leb k 4) (leb k 8)
@@ -112,7 +112,7 @@ row-value-falls k v high low p = by (leb k 2) (leb k 4) (leb k 8)
 row-falls : Falls rowFaults
 row-falls = object-falls rowKind rowSlot rowValueFaults (2 ∷ 3 ∷ 4 ∷ 5 ∷ []) row-value-falls
 
-each-row-falls : (es : Tree several) (high low : ℕ) → Placed es high low → Falling (eachRowFaults es) high low
+each-row-falls : (es : Tree several) (high low : ℕ) → InOrder es high low → Falling (eachRowFaults es) high low
 each-row-falls (end-list n) high low p = tt
 each-row-falls (element v es) high low p =
     let a = spans v high (p .0) (p .1) in
@@ -133,4 +133,4 @@ top-value-falls k v high low p = by (eqb k 1)
     by false = rows-fall v high low p
 
 pub faults-fall : Falls faults
-faults-fall = object-falls topKind alone topValueFaults (1 ∷ 2 ∷ []) top-value-falls
+faults-fall = object-falls topKind itself topValueFaults (1 ∷ 2 ∷ []) top-value-falls

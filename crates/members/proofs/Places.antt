@@ -8,17 +8,17 @@ use Rattle.json.specs.Trees.{Shape, Tree, Made, treeOf}
 use Rattle.json.specs.Trees.Tree.{text, other, list, object, end-list, element, end-object, member}
 
 -- all places lie below one number and not below another, and each is lower than those before it
-abbrev pub Placed : {k : Shape} → Tree k → ℕ → ℕ → Type 0
-Placed (text n bs) high low = (low ≤ n) × (n < high)
-Placed (other n) high low = (low ≤ n) × (n < high)
-Placed (list n es) high low = (n < high) × Placed es n low
-Placed (object n ms) high low = (n < high) × Placed ms n low
-Placed (end-list n) high low = (low ≤ n) × (n < high)
-Placed (element v es) high low = (mid : ℕ) × Placed v high mid × Placed es mid low
-Placed (end-object n) high low = (low ≤ n) × (n < high)
-Placed (member n x v ms) high low = (n < high) × ((mid : ℕ) × Placed v n mid × Placed ms mid low)
+abbrev pub InOrder : {k : Shape} → Tree k → ℕ → ℕ → Type 0
+InOrder (text n bs) high low = (low ≤ n) × (n < high)
+InOrder (other n) high low = (low ≤ n) × (n < high)
+InOrder (list n es) high low = (n < high) × InOrder es n low
+InOrder (object n ms) high low = (n < high) × InOrder ms n low
+InOrder (end-list n) high low = (low ≤ n) × (n < high)
+InOrder (element v es) high low = (mid : ℕ) × InOrder v high mid × InOrder es mid low
+InOrder (end-object n) high low = (low ≤ n) × (n < high)
+InOrder (member n x v ms) high low = (n < high) × ((mid : ℕ) × InOrder v n mid × InOrder ms mid low)
 
-pub spans : {k : Shape} (v : Tree k) (high low : ℕ) → Placed v high low → low < high
+pub spans : {k : Shape} (v : Tree k) (high low : ℕ) → InOrder v high low → low < high
 spans (text n bs) high low p = omega arith
 spans (other n) high low p = omega arith
 spans (list n es) high low p = let e = spans es n low (p .1) in omega arith
@@ -77,32 +77,32 @@ number-spans (Unsigned.unsigned w f p) =
     let c = power-spans p in
     omega arith
 
-abbrev PlacedMade : (p : Part) → Made p → ℕ → ℕ → Type 0
-PlacedMade Part.value x high low = Placed x high low
-PlacedMade Part.elements x high low = Placed x high low
-PlacedMade Part.moreElements x high low = Placed x high low
-PlacedMade Part.members x high low = Placed x high low
-PlacedMade Part.moreMembers x high low = Placed x high low
-PlacedMade Part.member x high low = Placed x high low
-PlacedMade Part.colon x high low = (mid : ℕ) × Placed (x .0) high mid × Placed (x .1) mid low
+abbrev MadeInOrder : (p : Part) → Made p → ℕ → ℕ → Type 0
+MadeInOrder Part.value x high low = InOrder x high low
+MadeInOrder Part.elements x high low = InOrder x high low
+MadeInOrder Part.moreElements x high low = InOrder x high low
+MadeInOrder Part.members x high low = InOrder x high low
+MadeInOrder Part.moreMembers x high low = InOrder x high low
+MadeInOrder Part.member x high low = InOrder x high low
+MadeInOrder Part.colon x high low = (mid : ℕ) × InOrder (x .0) high mid × InOrder (x .1) mid low
 
-pub places : {p : Part} {n : ℕ} {s r : List ℕ} (d : Reads p n s r) (high : ℕ) → length s < high → PlacedMade p (treeOf d) high (suc (length r))
-places (Reads.blank e d) high h = places d high (omega arith)
-places (Reads.string c) high h = let e = string-spans c in (omega arith, omega arith)
-places Reads.true-word high h = (omega arith, h)
-places Reads.false-word high h = (omega arith, h)
-places Reads.null-word high h = (omega arith, h)
-places (Reads.number u) high h = (number-spans u, h)
-places (Reads.negative u) high h = let e = number-spans u in (omega arith, h)
-places (Reads.list {s = s} m d) high h = (h, places d (suc (length s)) (omega arith))
-places Reads.no-element high h = (omega arith, h)
-places (Reads.first-element {t = t} d e) high h = (suc (length t), places d high h, places e (suc (length t)) (omega arith))
-places Reads.end-elements high h = (omega arith, h)
-places (Reads.next-element {t = t} d e) high h = (suc (length t), places d high (omega arith), places e (suc (length t)) (omega arith))
-places (Reads.object {s = s} m d) high h = (h, places d (suc (length s)) (omega arith))
-places Reads.no-member high h = (omega arith, h)
-places (Reads.first-member d) high h = places d high h
-places Reads.end-members high h = (omega arith, h)
-places (Reads.next-member d) high h = places d high (omega arith)
-places (Reads.named {s = s} c d) high h = let e = string-spans c in (h, places d (suc (length s)) (omega arith))
-places (Reads.content {t = t} d e) high h = (suc (length t), places d high (omega arith), places e (suc (length t)) (omega arith))
+pub in-order : {p : Part} {n : ℕ} {s r : List ℕ} (d : Reads p n s r) (high : ℕ) → length s < high → MadeInOrder p (treeOf d) high (suc (length r))
+in-order (Reads.blank e d) high h = in-order d high (omega arith)
+in-order (Reads.string c) high h = let e = string-spans c in (omega arith, omega arith)
+in-order Reads.true-word high h = (omega arith, h)
+in-order Reads.false-word high h = (omega arith, h)
+in-order Reads.null-word high h = (omega arith, h)
+in-order (Reads.number u) high h = (number-spans u, h)
+in-order (Reads.negative u) high h = let e = number-spans u in (omega arith, h)
+in-order (Reads.list {s = s} m d) high h = (h, in-order d (suc (length s)) (omega arith))
+in-order Reads.no-element high h = (omega arith, h)
+in-order (Reads.first-element {t = t} d e) high h = (suc (length t), in-order d high h, in-order e (suc (length t)) (omega arith))
+in-order Reads.end-elements high h = (omega arith, h)
+in-order (Reads.next-element {t = t} d e) high h = (suc (length t), in-order d high (omega arith), in-order e (suc (length t)) (omega arith))
+in-order (Reads.object {s = s} m d) high h = (h, in-order d (suc (length s)) (omega arith))
+in-order Reads.no-member high h = (omega arith, h)
+in-order (Reads.first-member d) high h = in-order d high h
+in-order Reads.end-members high h = (omega arith, h)
+in-order (Reads.next-member d) high h = in-order d high (omega arith)
+in-order (Reads.named {s = s} c d) high h = let e = string-spans c in (h, in-order d (suc (length s)) (omega arith))
+in-order (Reads.content {t = t} d e) high h = (suc (length t), in-order d high (omega arith), in-order e (suc (length t)) (omega arith))

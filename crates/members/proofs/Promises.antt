@@ -1,5 +1,5 @@
 -- What the reader of members promises.
-use Prim.Native.Nat.{ℕ, suc, _-_, _≤_, _<_}
+use Prim.Native.Nat.{ℕ, suc, _≤_}
 use mathlib.Core.Path.{_≡_, refl, sym, _∙_, ap, subst}
 use mathlib.Core.List.{List, [], _∷_}
 use mathlib.Core.Bool.{false}
@@ -10,14 +10,14 @@ use Rattle.json.specs.Trees.{treeOf}
 use Rattle.json.specs.machinery.Tokens.{Token}
 use Rattle.json.proofs.Tokenizing.{text-tokens}
 use Rattle.members.specs.machinery.Verdicts.{document}
-use Rattle.members.specs.Faults.{Fault, faults, In, Lowest, Says}
+use Rattle.members.specs.Faults.{MemberFault, faults, Behind, Decides}
 use Rattle.members.specs.machinery.Levels.{at, judge, placed, membersOf}
 use Rattle.members.specs.declared.checking.Checked.{Checked}
 use Rattle.members.specs.declared.checking.Checked.the-variants as C
 use Rattle.members.specs.declared.state.Level.the-variants as L
 use Rattle.members.proofs.Judging.{judged}
 use Rattle.members.proofs.FirstFault.{first, first-fault}
-use Rattle.members.proofs.Places.{places}
+use Rattle.members.proofs.Places.{in-order}
 use Rattle.members.proofs.Order.{Falling, faults-fall}
 
 -- Of a text, what is found is what is said of its tree.
@@ -26,34 +26,37 @@ unfolding membersOf
 json-members t x =
     ap (placed (length t)) (ap (λ (ts : List Token). judge ts (at L.Outside 0 0 0 0 0 0 false)) (text-tokens x) ∙ judged (treeOf (x .value-first)))
 
-behind : {g : Fault} (fs : List Fault) (high low : ℕ) → Falling fs high low → In g fs → g .left < high
-behind (f ∷ fs) high low p In.here = p .1
-behind (f ∷ fs) high low p (In.later i) = let h = behind fs (f .left) low (p .2) i in omega arith
+further : (fs : List MemberFault) (high low left : ℕ) → high ≤ left → Falling fs high low → Behind left fs
+further [] high low left h p = tt
+further (f ∷ fs) high low left h p = (omega arith, further fs (f .left) low left (omega arith) (p .2))
 
-said : (size low : ℕ) (fs : List Fault) → Falling fs (suc size) low → Says size fs (placed size (first fs))
-said size low [] p = refl
-said size low (f ∷ fs) p =
+first-decides : (size low : ℕ) (fs : List MemberFault) → Falling fs (suc size) low → Decides size fs (placed size (first fs))
+first-decides size low [] p = refl
+first-decides size low (f ∷ fs) p =
     record {
       fault = f;
-      is-one = In.here;
+      others = fs;
+      both = refl;
       its-number = refl;
-      its-place = refl;
-      lowest = lower;
-      only = same;
+      its-place = omega arith;
+      behind = further fs (f .left) low (f .left) (omega arith) (p .2);
     }
-  where
-    lower : (g : Fault) → In g (f ∷ fs) → size - f .left ≤ size - g .left
-    lower g In.here = omega arith
-    lower g (In.later i) = let h = behind fs (f .left) low (p .2) i in omega arith
-
-    same : (g : Fault) → In g (f ∷ fs) → size - g .left ≡ size - f .left → g ≡ f
-    same g In.here e = refl
-    same g (In.later i) e = absurd (let h = behind fs (f .left) low (p .2) i in omega arith)
 
 -- "The lowest place of any 21 or 22 in the text decides; no two can share a place."
-pub json-lowest : (t : List ℕ) (x : Text t) → Says (length t) (faults (treeOf (x .value-first))) (membersOf t)
+pub json-lowest : (t : List ℕ) (x : Text t) → Decides (length t) (faults (treeOf (x .value-first))) (membersOf t)
 json-lowest t x =
     let v = treeOf (x .value-first) in
-    let falls = faults-fall v (suc (length t)) (suc (length (x .behind))) (places (x .value-first) (suc (length t)) (omega arith)) in
-    subst (Says (length t) (faults v)) (sym (json-members t x ∙ ap (placed (length t)) (first-fault v)))
-    (said (length t) (suc (length (x .behind))) (faults v) falls)
+    let falls = faults-fall v (suc (length t)) (suc (length (x .behind))) (in-order (x .value-first) (suc (length t)) (omega arith)) in
+    subst (Decides (length t) (faults v)) (sym (json-members t x ∙ ap (placed (length t)) (first-fault v)))
+    (first-decides (length t) (suc (length (x .behind))) (faults v) falls)
+
+-- The faults decide one answer.
+pub one-decision : (size : ℕ) (fs : List MemberFault) (a b : Checked) → Decides size fs a → Decides size fs b → a ≡ b
+one-decision size fs C.Sound C.Sound p q = refl
+one-decision size fs C.Sound (C.Refused k n) p q = absurd (let z : _≡_ {A = ℕ} 0 1 = cc (p, q .both) in omega arith)
+one-decision size fs (C.Refused k n) C.Sound p q = absurd (let z : _≡_ {A = ℕ} 0 1 = cc (p .both, q) in omega arith)
+one-decision size fs (C.Refused k n) (C.Refused l m) p q =
+    let same : p .fault ≡ q .fault = cc in
+    let numbers : k ≡ l = sym (p .its-number) ∙ ap (λ (f : MemberFault). f .number) same ∙ q .its-number in
+    let places : n ≡ m = omega (arith, ap (λ (f : MemberFault). f .left) same) in
+    rw (numbers, places)

@@ -1,5 +1,5 @@
 -- All that is wrong with the members of a document, said of its tree: 21 and 22, each at its place, in the order of the text.
-use Prim.Native.Nat.{ℕ, _-_, _≤_}
+use Prim.Native.Nat.{ℕ, _+_, _<_}
 use mathlib.Core.Path.{_≡_}
 use mathlib.Core.Bool.{Bool, true, false, _&&_, _||_}
 use mathlib.Core.List.{List, [], _∷_, _++_}
@@ -9,25 +9,26 @@ use Rattle.json.specs.Texts.{ascii}
 use Rattle.json.specs.Trees.{Tree}
 use Rattle.json.specs.Trees.Shape.{one, several, named}
 use Rattle.json.specs.Trees.Tree.{text, other, list, object, end-list, element, end-object, member}
+use Rattle.members.specs.Members.{topKind, rowKind, awsKind, operatorKind, keyKind, rowSlot, itself, versionText}
 use Rattle.members.specs.declared.checking.Checked.{Checked}
 use Rattle.members.specs.declared.checking.Checked.the-variants as C
-use Rattle.members.specs.Members.{topKind, rowKind, awsKind, operatorKind, keyKind, rowSlot, versionText}
 
 -- its number, and its place as the bytes left there
-pub record Fault : Type 0 where
+pub record MemberFault : Type 0 where
   pub number : ℕ
   pub left : ℕ
 
 -- 21, at a name: the object has no such member, or has it already
-abbrev pub badName : ℕ → List Fault
+abbrev pub badName : ℕ → List MemberFault
 badName n = record { number = 21; left = n } ∷ []
 
 -- 22, at a value of another type than is due, or at the closing brace of an object that lacks a member
-abbrev pub badValue : ℕ → List Fault
+abbrev pub badValue : ℕ → List MemberFault
 badValue n = record { number = 22; left = n } ∷ []
 
 -- What an object may have
 
+-- a member is among those met; all that are needed are
 abbrev pub among : List ℕ → ℕ → Bool
 among [] slot = false
 among (s ∷ seen) slot = eqb slot s || among seen slot
@@ -37,47 +38,43 @@ allAmong seen [] = true
 allAmong seen (s ∷ needed) = among seen s && allAmong seen needed
 
 -- the members of an object: which a name is (0: none), as which it counts, what its value may be, which ones it needs, and which were met
-module _ (kindOf : List ℕ → ℕ) (slotOf : ℕ → ℕ) (valueFaults : ℕ → Tree one → List Fault) (needed : List ℕ) where
-  abbrev pub memberFaults : List ℕ → Tree named → List Fault
+module _ (kindOf : List ℕ → ℕ) (slotOf : ℕ → ℕ) (valueFaults : ℕ → Tree one → List MemberFault) (needed : List ℕ) where
+  abbrev pub memberFaults : List ℕ → Tree named → List MemberFault
   memberFaults seen (end-object n) = pick (allAmong seen needed) [] (badValue n)
   memberFaults seen (member n x v ms) =
       pick (eqb (kindOf x) 0) (badName n ++ memberFaults seen ms)
       (pick (among seen (slotOf (kindOf x))) (badName n) []
       ++ (valueFaults (kindOf x) v ++ memberFaults (slotOf (kindOf x) ∷ seen) ms))
 
--- each member counts as itself
-abbrev pub alone : ℕ → ℕ
-alone k = k
-
 -- Types
 
 -- a string is due
-abbrev pub textFaults : Tree one → List Fault
+abbrev pub textFaults : Tree one → List MemberFault
 textFaults (text n bs) = []
 textFaults (other n) = badValue n
 textFaults (list n es) = badValue n
 textFaults (object n ms) = badValue n
 
 -- this string is due
-abbrev pub thisTextFaults : List ℕ → Tree one → List Fault
+abbrev pub thisTextFaults : List ℕ → Tree one → List MemberFault
 thisTextFaults x (text n bs) = pick (sameBytes bs x) [] (badValue n)
 thisTextFaults x (other n) = badValue n
 thisTextFaults x (list n es) = badValue n
 thisTextFaults x (object n ms) = badValue n
 
-abbrev pub eachTextFaults : Tree several → List Fault
+abbrev pub eachTextFaults : Tree several → List MemberFault
 eachTextFaults (end-list n) = []
 eachTextFaults (element v es) = textFaults v ++ eachTextFaults es
 
 -- a string or a list of strings is due
-abbrev pub stringFaults : Tree one → List Fault
+abbrev pub stringFaults : Tree one → List MemberFault
 stringFaults (text n bs) = []
 stringFaults (other n) = badValue n
 stringFaults (list n es) = eachTextFaults es
 stringFaults (object n ms) = badValue n
 
 -- an object is due
-abbrev pub objectFaults : (Tree named → List Fault) → Tree one → List Fault
+abbrev pub objectFaults : (Tree named → List MemberFault) → Tree one → List MemberFault
 objectFaults inside (text n bs) = badValue n
 objectFaults inside (other n) = badValue n
 objectFaults inside (list n es) = badValue n
@@ -86,64 +83,65 @@ objectFaults inside (object n ms) = inside ms
 -- The document
 
 -- what an operator holds: keys, each with strings
-abbrev pub operatorFaults : Tree one → List Fault
-operatorFaults = objectFaults (memberFaults keyKind alone (λ k v. stringFaults v) [] [])
+abbrev pub operatorFaults : Tree one → List MemberFault
+operatorFaults = objectFaults (memberFaults keyKind itself (λ k v. stringFaults v) [] [])
 
 -- Condition: operators
-abbrev pub conditionFaults : Tree one → List Fault
-conditionFaults = objectFaults (memberFaults operatorKind alone (λ k v. operatorFaults v) [] [])
+abbrev pub conditionFaults : Tree one → List MemberFault
+conditionFaults = objectFaults (memberFaults operatorKind itself (λ k v. operatorFaults v) [] [])
 
 -- a principal: the string *, or an object with the one member AWS, which holds strings
-abbrev pub principalFaults : Tree one → List Fault
+abbrev pub principalFaults : Tree one → List MemberFault
 principalFaults (text n bs) = pick (sameBytes bs (ascii "*")) [] (badValue n)
 principalFaults (other n) = badValue n
 principalFaults (list n es) = badValue n
-principalFaults (object n ms) = memberFaults awsKind alone (λ k v. stringFaults v) (1 ∷ []) [] ms
+principalFaults (object n ms) = memberFaults awsKind itself (λ k v. stringFaults v) (1 ∷ []) [] ms
 
 -- a statement's members: Sid and Effect (1, 2), the principals (3, 4), actions and resources (5 to 8), Condition (9)
-abbrev pub rowValueFaults : ℕ → Tree one → List Fault
+abbrev pub rowValueFaults : ℕ → Tree one → List MemberFault
 rowValueFaults k v =
     pick (leb k 2) (textFaults v) (pick (leb k 4) (principalFaults v) (pick (leb k 8) (stringFaults v) (conditionFaults v)))
 
 -- a statement: it needs Effect, a principal, an action and a resource
-abbrev pub rowFaults : Tree one → List Fault
+abbrev pub rowFaults : Tree one → List MemberFault
 rowFaults = objectFaults (memberFaults rowKind rowSlot rowValueFaults (2 ∷ 3 ∷ 4 ∷ 5 ∷ []) [])
 
-abbrev pub eachRowFaults : Tree several → List Fault
+abbrev pub eachRowFaults : Tree several → List MemberFault
 eachRowFaults (end-list n) = []
 eachRowFaults (element v es) = rowFaults v ++ eachRowFaults es
 
 -- a statement or a list of statements
-abbrev pub rowsFaults : Tree one → List Fault
+abbrev pub rowsFaults : Tree one → List MemberFault
 rowsFaults (text n bs) = badValue n
 rowsFaults (other n) = badValue n
 rowsFaults (list n es) = eachRowFaults es
 rowsFaults (object n ms) = rowFaults (object n ms)
 
 -- Version (1) and Statement (2)
-abbrev pub topValueFaults : ℕ → Tree one → List Fault
+abbrev pub topValueFaults : ℕ → Tree one → List MemberFault
 topValueFaults k v = pick (eqb k 1) (thisTextFaults versionText v) (rowsFaults v)
 
 -- the document: it needs Version and Statement
-abbrev pub faults : Tree one → List Fault
-faults = objectFaults (memberFaults topKind alone topValueFaults (1 ∷ 2 ∷ []) [])
+abbrev pub faults : Tree one → List MemberFault
+faults = objectFaults (memberFaults topKind itself topValueFaults (1 ∷ 2 ∷ []) [])
 
--- Which of them decides
+-- Which fault decides
 
-pub data In (f : Fault) : List Fault → Type 0 where
-  here : {fs : List Fault} → In f (f ∷ fs)
-  later : {g : Fault} {fs : List Fault} → In f fs → In f (g ∷ fs)
+-- every one of these stands further on in the text: fewer bytes are left there
+abbrev pub Behind : ℕ → List MemberFault → Type 0
+Behind left [] = Unit {0}
+Behind left (f ∷ fs) = (f .left < left) × Behind left fs
 
--- of the faults of a text of so many bytes, this number stands at this place, no fault at a lower one, and no other at the same
-pub record Lowest (size : ℕ) (fs : List Fault) (number place : ℕ) : Type 0 where
-  pub fault : Fault
-  pub is-one : In fault fs
+-- of the faults of a text of so many bytes, one has this number and this place, and all others stand behind it
+pub record Lowest (size : ℕ) (fs : List MemberFault) (number place : ℕ) : Type 0 where
+  pub fault : MemberFault
+  pub others : List MemberFault
+  pub both : fs ≡ fault ∷ others
   pub its-number : fault .number ≡ number
-  pub its-place : size - fault .left ≡ place
-  pub lowest : (g : Fault) → In g fs → place ≤ size - g .left
-  pub only : (g : Fault) → In g fs → size - g .left ≡ place → g ≡ fault
+  pub its-place : fault .left + place ≡ size
+  pub behind : Behind (fault .left) others
 
--- what an answer says of the faults of a text
-abbrev pub Says : ℕ → List Fault → Checked → Type 0
-Says size fs C.Sound = fs ≡ []
-Says size fs (C.Refused number place) = Lowest size fs number place
+-- what an answer says of the faults of a text of so many bytes
+abbrev pub Decides : ℕ → List MemberFault → Checked → Type 0
+Decides size fs C.Sound = fs ≡ []
+Decides size fs (C.Refused number place) = Lowest size fs number place

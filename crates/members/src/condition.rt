@@ -6,7 +6,8 @@ use crate::names::operator_kind;
 use crate::state::Level;
 use crate::state::State;
 use crate::state::Turn;
-use crate::state::next;
+use crate::state::at_condition;
+use crate::state::at_statement;
 use json::events::Event;
 ghost use mathlib.Core.Path.{_≡_};
 ghost use lib.ListN.{drop};
@@ -23,16 +24,7 @@ fn operator_name(state: State, text: &[u8], from: usize) -> Turn
     if is_bad(kind, kind, seen) {
         return Turn::Refused(21);
     }
-    next(
-        Level::Operators,
-        kind,
-        state.top,
-        state.row,
-        0,
-        with_mark(seen, kind),
-        0,
-        state.listed,
-    )
+    at_condition(state, Level::Operators, kind, with_mark(seen, kind), 0)
 }
 
 // A token among the operators of a condition.
@@ -46,17 +38,8 @@ pub(crate) fn in_operators(state: State, event: Event, text: &[u8], from: usize)
         Event::Other => Turn::Refused(22),
         Event::OpenList => Turn::Refused(22),
         Event::CloseList => Turn::Next(state),
-        Event::OpenObject => next(
-            Level::Keys,
-            0,
-            state.top,
-            state.row,
-            0,
-            state.operators,
-            0,
-            state.listed,
-        ),
-        Event::CloseObject => next(Level::Row, 0, state.top, state.row, 0, 0, 0, state.listed),
+        Event::OpenObject => at_condition(state, Level::Keys, 0, state.operators, 0),
+        Event::CloseObject => at_statement(state, Level::Row, 0, state.row),
     }
 }
 
@@ -69,15 +52,12 @@ fn key_name(state: State, text: &[u8], from: usize) -> Turn
     if is_bad(kind, kind, seen) {
         return Turn::Refused(21);
     }
-    next(
+    at_condition(
+        state,
         Level::Keys,
         kind,
-        state.top,
-        state.row,
-        0,
         state.operators,
         with_mark(seen, kind),
-        state.listed,
     )
 }
 
@@ -88,38 +68,11 @@ pub(crate) fn in_keys(state: State, event: Event, text: &[u8], from: usize) -> T
     match event {
         Event::Nothing => Turn::Next(state),
         Event::Name => key_name(state, text, from),
-        Event::Text => next(
-            Level::Keys,
-            0,
-            state.top,
-            state.row,
-            0,
-            state.operators,
-            state.keys,
-            state.listed,
-        ),
+        Event::Text => at_condition(state, Level::Keys, 0, state.operators, state.keys),
         Event::Other => Turn::Refused(22),
-        Event::OpenList => next(
-            Level::KeyStrings,
-            0,
-            state.top,
-            state.row,
-            0,
-            state.operators,
-            state.keys,
-            state.listed,
-        ),
+        Event::OpenList => at_condition(state, Level::KeyStrings, 0, state.operators, state.keys),
         Event::CloseList => Turn::Next(state),
         Event::OpenObject => Turn::Refused(22),
-        Event::CloseObject => next(
-            Level::Operators,
-            0,
-            state.top,
-            state.row,
-            0,
-            state.operators,
-            0,
-            state.listed,
-        ),
+        Event::CloseObject => at_condition(state, Level::Operators, 0, state.operators, 0),
     }
 }

@@ -6,7 +6,7 @@ use crate::names::top_kind;
 use crate::state::Level;
 use crate::state::State;
 use crate::state::Turn;
-use crate::state::next;
+use crate::state::at_document;
 use json::events::Event;
 use json::pieces::string_is;
 ghost use mathlib.Core.Path.{_≡_};
@@ -35,7 +35,7 @@ fn top_name(state: State, text: &[u8], from: usize) -> Turn
     if is_bad(kind, kind, seen) {
         return Turn::Refused(21);
     }
-    next(Level::Top, kind, with_mark(seen, kind), 0, 0, 0, 0, false)
+    at_document(Level::Top, kind, with_mark(seen, kind), false)
 }
 
 // A string: the one Version, or 22.
@@ -44,7 +44,7 @@ fn top_text(state: State, text: &[u8], from: usize) -> Turn
 {
     if state.due == 1 {
         if string_is(text, from, b"2012-10-17") {
-            return next(Level::Top, 0, state.top, 0, 0, 0, 0, false);
+            return at_document(Level::Top, 0, state.top, false);
         }
         return Turn::Refused(22);
     }
@@ -58,7 +58,7 @@ fn top_list(state: State) -> Turn
     if state.due == 1 {
         return Turn::Refused(22);
     }
-    next(Level::Rows, 0, state.top, 0, 0, 0, 0, false)
+    at_document(Level::Rows, 0, state.top, false)
 }
 
 // An object: the only statement.
@@ -68,7 +68,7 @@ fn top_object(state: State) -> Turn
     if state.due == 1 {
         return Turn::Refused(22);
     }
-    next(Level::Row, 0, state.top, 0, 0, 0, 0, false)
+    at_document(Level::Row, 0, state.top, false)
 }
 
 // The closing brace: 22 where something is missing.
@@ -76,7 +76,7 @@ fn top_end(state: State) -> Turn
     ensures { λ r. ⌜ r ≡ inTop state E.CloseObject [] ⌝ }
 {
     if top_whole(state.top) {
-        return next(Level::Outside, 0, 0, 0, 0, 0, 0, false);
+        return at_document(Level::Outside, 0, 0, false);
     }
     Turn::Refused(22)
 }
@@ -107,8 +107,8 @@ pub(crate) fn in_rows(state: State, event: Event) -> Turn
         Event::Text => Turn::Refused(22),
         Event::Other => Turn::Refused(22),
         Event::OpenList => Turn::Refused(22),
-        Event::CloseList => next(Level::Top, 0, state.top, 0, 0, 0, 0, false),
-        Event::OpenObject => next(Level::Row, 0, state.top, 0, 0, 0, 0, true),
+        Event::CloseList => at_document(Level::Top, 0, state.top, false),
+        Event::OpenObject => at_document(Level::Row, 0, state.top, true),
         Event::CloseObject => Turn::Next(state),
     }
 }

@@ -7,6 +7,7 @@ use crate::principal::in_principals;
 use crate::state::Level;
 use crate::state::State;
 use crate::state::Turn;
+use crate::state::at_document;
 use crate::state::next;
 use crate::statement::in_row;
 use json::events::Event;
@@ -27,7 +28,7 @@ fn outside(state: State, event: Event) -> Turn
         Event::Other => Turn::Refused(22),
         Event::OpenList => Turn::Refused(22),
         Event::CloseList => Turn::Next(state),
-        Event::OpenObject => next(Level::Top, 0, 0, 0, 0, 0, 0, false),
+        Event::OpenObject => at_document(Level::Top, 0, 0, false),
         Event::CloseObject => Turn::Next(state),
     }
 }

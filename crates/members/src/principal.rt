@@ -6,7 +6,8 @@ use crate::names::aws_kind;
 use crate::state::Level;
 use crate::state::State;
 use crate::state::Turn;
-use crate::state::next;
+use crate::state::at_principal;
+use crate::state::at_statement;
 use json::events::Event;
 ghost use mathlib.Core.Path.{_≡_};
 ghost use mathlib.Core.List.{[]};
@@ -24,16 +25,7 @@ fn aws_name(state: State, text: &[u8], from: usize) -> Turn
     if is_bad(kind, kind, seen) {
         return Turn::Refused(21);
     }
-    next(
-        Level::Principals,
-        kind,
-        state.top,
-        state.row,
-        with_mark(seen, kind),
-        0,
-        0,
-        state.listed,
-    )
+    at_principal(state, Level::Principals, kind, with_mark(seen, kind))
 }
 
 // The closing brace: 22 where AWS is missing.
@@ -41,7 +33,7 @@ fn aws_end(state: State) -> Turn
     ensures { λ r. ⌜ r ≡ inPrincipals state E.CloseObject [] ⌝ }
 {
     if is_seen(state.principals, 1) {
-        return next(Level::Row, 0, state.top, state.row, 0, 0, 0, state.listed);
+        return at_statement(state, Level::Row, 0, state.row);
     }
     Turn::Refused(22)
 }
@@ -53,27 +45,9 @@ pub(crate) fn in_principals(state: State, event: Event, text: &[u8], from: usize
     match event {
         Event::Nothing => Turn::Next(state),
         Event::Name => aws_name(state, text, from),
-        Event::Text => next(
-            Level::Principals,
-            0,
-            state.top,
-            state.row,
-            state.principals,
-            0,
-            0,
-            state.listed,
-        ),
+        Event::Text => at_principal(state, Level::Principals, 0, state.principals),
         Event::Other => Turn::Refused(22),
-        Event::OpenList => next(
-            Level::PrincipalStrings,
-            0,
-            state.top,
-            state.row,
-            state.principals,
-            0,
-            0,
-            state.listed,
-        ),
+        Event::OpenList => at_principal(state, Level::PrincipalStrings, 0, state.principals),
         Event::CloseList => Turn::Next(state),
         Event::OpenObject => Turn::Refused(22),
         Event::CloseObject => aws_end(state),

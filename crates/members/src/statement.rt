@@ -7,7 +7,8 @@ use crate::names::row_kind;
 use crate::state::Level;
 use crate::state::State;
 use crate::state::Turn;
-use crate::state::next;
+use crate::state::at_document;
+use crate::state::at_statement;
 use json::events::Event;
 use json::pieces::string_is;
 ghost use mathlib.Core.Path.{_≡_};
@@ -49,16 +50,7 @@ fn row_name(state: State, text: &[u8], from: usize) -> Turn
     if is_bad(kind, slot, seen) {
         return Turn::Refused(21);
     }
-    next(
-        Level::Row,
-        kind,
-        state.top,
-        with_mark(seen, slot),
-        0,
-        0,
-        0,
-        state.listed,
-    )
+    at_statement(state, Level::Row, kind, with_mark(seen, slot))
 }
 
 // A string: any for Sid, Effect, actions and resources; `*` alone for a principal.
@@ -66,16 +58,16 @@ fn row_text(state: State, text: &[u8], from: usize) -> Turn
     ensures { λ r. ⌜ r ≡ inRow state E.Text (contentOf (drop from (now (text .entry)))) ⌝ }
 {
     if state.due <= 2 {
-        return next(Level::Row, 0, state.top, state.row, 0, 0, 0, state.listed);
+        return at_statement(state, Level::Row, 0, state.row);
     }
     if state.due <= 4 {
         if string_is(text, from, b"*") {
-            return next(Level::Row, 0, state.top, state.row, 0, 0, 0, state.listed);
+            return at_statement(state, Level::Row, 0, state.row);
         }
         return Turn::Refused(22);
     }
     if state.due <= 8 {
-        return next(Level::Row, 0, state.top, state.row, 0, 0, 0, state.listed);
+        return at_statement(state, Level::Row, 0, state.row);
     }
     Turn::Refused(22)
 }
@@ -91,16 +83,7 @@ fn row_list(state: State) -> Turn
         return Turn::Refused(22);
     }
     if state.due <= 8 {
-        return next(
-            Level::RowStrings,
-            0,
-            state.top,
-            state.row,
-            0,
-            0,
-            0,
-            state.listed,
-        );
+        return at_statement(state, Level::RowStrings, 0, state.row);
     }
     Turn::Refused(22)
 }
@@ -113,30 +96,12 @@ fn row_object(state: State) -> Turn
         return Turn::Refused(22);
     }
     if state.due <= 4 {
-        return next(
-            Level::Principals,
-            0,
-            state.top,
-            state.row,
-            0,
-            0,
-            0,
-            state.listed,
-        );
+        return at_statement(state, Level::Principals, 0, state.row);
     }
     if state.due <= 8 {
         return Turn::Refused(22);
     }
-    next(
-        Level::Operators,
-        0,
-        state.top,
-        state.row,
-        0,
-        0,
-        0,
-        state.listed,
-    )
+    at_statement(state, Level::Operators, 0, state.row)
 }
 
 // The closing brace: 22 where something is missing.
@@ -144,7 +109,7 @@ fn row_end(state: State) -> Turn
     ensures { λ r. ⌜ r ≡ inRow state E.CloseObject [] ⌝ }
 {
     if row_whole(state.row) {
-        return next(behind_row(state.listed), 0, state.top, 0, 0, 0, 0, false);
+        return at_document(behind_row(state.listed), 0, state.top, false);
     }
     Turn::Refused(22)
 }

@@ -9,7 +9,7 @@ use Rattle.json.specs.Texts.{ascii}
 use Rattle.json.specs.Trees.{Tree}
 use Rattle.json.specs.Trees.Shape.{one, several, named}
 use Rattle.json.specs.Trees.Tree.{text, other, list, object, end-list, element, end-object, member}
-use Rattle.members.specs.Members.{Verdict, versionText, topKind, rowKind, awsKind, operatorKind, keyKind, rowSlot}
+use Rattle.members.specs.Members.{Verdict, versionText, topKind, rowKind, awsKind, operatorKind, keyKind, rowSlot, itself}
 use Rattle.members.specs.Members.Verdict.{fine, refused}
 
 -- the first fault of two
@@ -67,10 +67,6 @@ thisText x (object n ms) = refused 22 n
 -- nothing has to be met
 abbrev pub always : ℕ → Bool
 always seen = true
-
--- a member counts as itself
-abbrev pub itself : ℕ → ℕ
-itself k = k
 
 abbrev pub keys : ℕ → Tree named → Verdict
 keys = members keyKind itself (λ k v. strings v) always

@@ -4,7 +4,8 @@ use Rattle.members.proofs.condition.in_operators.Statement.{statement}
 use Rattle.members.proofs.condition.in_operators.Tie as tie
 use Rattle.members.proofs.condition.in_operators.Reads as reads
 use Rattle.members.proofs.condition.in_operators.Lts as lts
-use Rattle.members.proofs.state.next.Reads as next-reads
+use Rattle.members.proofs.state.at_condition.Reads as at-condition-reads
+use Rattle.members.proofs.state.at_statement.Reads as at-statement-reads
 use Rattle.members.proofs.condition.operator_name.Reads as operator-name-reads
 
 enum-told : tie.Need-enum-told
@@ -31,14 +32,14 @@ enum-told-6 c = search needs
 enum-told-7 : tie.Need-enum-told-7
 enum-told-7 c = search needs
 
-next-requires : tie.Need-next-requires
-next-requires c κs = search needs
+at-condition-requires : tie.Need-at-condition-requires
+at-condition-requires c κs = search needs
 
 enum-told-8 : tie.Need-enum-told-8
 enum-told-8 c = search needs
 
-next-requires-2 : tie.Need-next-requires-2
-next-requires-2 c κs = search needs
+at-statement-requires : tie.Need-at-statement-requires
+at-statement-requires c κs = search needs
 
 returns : tie.Need-returns
 returns c = simp (c .enum-told .given .1)
@@ -59,10 +60,10 @@ returns-6 : tie.Need-returns-6
 returns-6 c = simp (c .enum-told6 .given .1)
 
 returns-7 : tie.Need-returns-7
-returns-7 c = simp (c .before .enum-told7 .given .1, c .next .ensures)
+returns-7 c = simp (c .before .enum-told7 .given .1, c .at-condition .ensures)
 
 returns-8 : tie.Need-returns-8
-returns-8 c = simp (c .before .enum-told8 .given .1, c .next2 .ensures)
+returns-8 c = simp (c .before .enum-told8 .given .1, c .at-statement .ensures)
 
 pub in-operators-spec : {M : Type 1} → statement M
 in-operators-spec =
@@ -76,9 +77,9 @@ in-operators-spec =
     enum-told-5
     enum-told-6
     enum-told-7
-    next-requires
+    at-condition-requires
     enum-told-8
-    next-requires-2
+    at-statement-requires
     returns
     returns-2
     returns-3

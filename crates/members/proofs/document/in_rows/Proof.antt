@@ -4,7 +4,7 @@ use Rattle.members.proofs.document.in_rows.Statement.{statement}
 use Rattle.members.proofs.document.in_rows.Tie as tie
 use Rattle.members.proofs.document.in_rows.Reads as reads
 use Rattle.members.proofs.document.in_rows.Lts as lts
-use Rattle.members.proofs.state.next.Reads as next-reads
+use Rattle.members.proofs.state.at_document.Reads as at-document-reads
 
 enum-told : tie.Need-enum-told
 enum-told c = search needs
@@ -24,14 +24,14 @@ enum-told-5 c = search needs
 enum-told-6 : tie.Need-enum-told-6
 enum-told-6 c = search needs
 
-next-requires : tie.Need-next-requires
-next-requires c κs = search needs
+at-document-requires : tie.Need-at-document-requires
+at-document-requires c κs = search needs
 
 enum-told-7 : tie.Need-enum-told-7
 enum-told-7 c = search needs
 
-next-requires-2 : tie.Need-next-requires-2
-next-requires-2 c κs = search needs
+at-document-requires-2 : tie.Need-at-document-requires-2
+at-document-requires-2 c κs = search needs
 
 enum-told-8 : tie.Need-enum-told-8
 enum-told-8 c = search needs
@@ -52,10 +52,10 @@ returns-5 : tie.Need-returns-5
 returns-5 c = simp (c .enum-told5 .given .1)
 
 returns-6 : tie.Need-returns-6
-returns-6 c = simp (c .before .enum-told6 .given .1, c .next .ensures)
+returns-6 c = simp (c .before .enum-told6 .given .1, c .at-document .ensures)
 
 returns-7 : tie.Need-returns-7
-returns-7 c = simp (c .before .enum-told7 .given .1, c .next2 .ensures)
+returns-7 c = simp (c .before .enum-told7 .given .1, c .at-document2 .ensures)
 
 returns-8 : tie.Need-returns-8
 returns-8 c = simp (c .enum-told8 .given .1)
@@ -70,9 +70,9 @@ in-rows-spec =
     enum-told-4
     enum-told-5
     enum-told-6
-    next-requires
+    at-document-requires
     enum-told-7
-    next-requires-2
+    at-document-requires-2
     enum-told-8
     returns
     returns-2

@@ -5,7 +5,7 @@ use Rattle.members.proofs.document.top_name.Statement.{statement}
 use Rattle.members.proofs.document.top_name.Tie as tie
 use Rattle.members.proofs.document.top_name.Reads as reads
 use Rattle.members.proofs.document.top_name.Lts as lts
-use Rattle.members.proofs.state.next.Reads as next-reads
+use Rattle.members.proofs.state.at_document.Reads as at-document-reads
 use Rattle.members.proofs.marks.is_bad.Reads as is-bad-reads
 use Rattle.members.proofs.marks.with_mark.Reads as with-mark-reads
 use Rattle.members.proofs.names.top_kind.Reads as top-kind-reads
@@ -22,13 +22,13 @@ returns c = rw (sym (c .before .before .top-kind .ensures .0), sym (c .before .i
 with-mark-requires : tie.Need-with-mark-requires
 with-mark-requires c κs = search needs
 
-next-requires : tie.Need-next-requires
-next-requires c κs = search needs
+at-document-requires : tie.Need-at-document-requires
+at-document-requires c κs = search needs
 
 returns-2 : tie.Need-returns-2
-returns-2 c = rw (c .next .ensures, c .before .with-mark .ensures, sym (c .before .before .before .before .top-kind .ensures .0), sym (c .before .before .before .is-bad .ensures) ∙ c .before .before .if1 .left)
+returns-2 c = rw (c .at-document .ensures, c .before .with-mark .ensures, sym (c .before .before .before .before .top-kind .ensures .0), sym (c .before .before .before .is-bad .ensures) ∙ c .before .before .if1 .left)
 
 pub top-name-spec : {M : Type 1} → statement M
 top-name-spec =
     tie.close
-    (tie.spec top-kind-requires is-bad-requires returns with-mark-requires next-requires returns-2)
+    (tie.spec top-kind-requires is-bad-requires returns with-mark-requires at-document-requires returns-2)

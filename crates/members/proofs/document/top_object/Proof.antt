@@ -5,16 +5,16 @@ use Rattle.members.proofs.document.top_object.Statement.{statement}
 use Rattle.members.proofs.document.top_object.Tie as tie
 use Rattle.members.proofs.document.top_object.Reads as reads
 use Rattle.members.proofs.document.top_object.Lts as lts
-use Rattle.members.proofs.state.next.Reads as next-reads
+use Rattle.members.proofs.state.at_document.Reads as at-document-reads
 
 returns : tie.Need-returns
 returns c = simp (eq-eqb _ _ (c .if1 .taken))
 
-next-requires : tie.Need-next-requires
-next-requires c κs = search needs
+at-document-requires : tie.Need-at-document-requires
+at-document-requires c κs = search needs
 
 returns-2 : tie.Need-returns-2
-returns-2 c = simp (ne-eqb _ _ (c .before .if1 .left), c .next .ensures)
+returns-2 c = simp (ne-eqb _ _ (c .before .if1 .left), c .at-document .ensures)
 
 pub top-object-spec : {M : Type 1} → statement M
-top-object-spec = tie.close (tie.spec returns next-requires returns-2)
+top-object-spec = tie.close (tie.spec returns at-document-requires returns-2)

@@ -8,7 +8,7 @@ use Rattle.members.proofs.document.top_text.Tie as tie
 use Rattle.members.proofs.document.top_text.Reads as reads
 use Rattle.members.proofs.document.top_text.Lts as lts
 use Rattle.json.proofs.pieces.string_is.Reads as string-is-reads
-use Rattle.members.proofs.state.next.Reads as next-reads
+use Rattle.members.proofs.state.at_document.Reads as at-document-reads
 
 slice-aggregate-string-is : tie.Need-slice-aggregate-string-is
 slice-aggregate-string-is c = search needs
@@ -16,12 +16,12 @@ slice-aggregate-string-is c = search needs
 string-is-requires : tie.Need-string-is-requires
 string-is-requires c κs = search needs
 
-next-requires : tie.Need-next-requires
-next-requires c κs = search needs
+at-document-requires : tie.Need-at-document-requires
+at-document-requires c κs = search needs
 
 returns : tie.Need-returns
 unfolding versionText
-returns c = simp (eq-eqb _ _ (c .before .before .before .before .if1 .taken), sym (c .before .before .string-is .ensures) ∙ c .before .if2 .taken, c .next .ensures)
+returns c = simp (eq-eqb _ _ (c .before .before .before .before .if1 .taken), sym (c .before .before .string-is .ensures) ∙ c .before .if2 .taken, c .at-document .ensures)
 
 returns-2 : tie.Need-returns-2
 unfolding versionText
@@ -37,7 +37,7 @@ top-text-spec =
     (tie.spec
     slice-aggregate-string-is
     string-is-requires
-    next-requires
+    at-document-requires
     returns
     returns-2
     returns-3)

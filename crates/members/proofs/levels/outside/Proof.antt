@@ -4,7 +4,7 @@ use Rattle.members.proofs.levels.outside.Statement.{statement}
 use Rattle.members.proofs.levels.outside.Tie as tie
 use Rattle.members.proofs.levels.outside.Reads as reads
 use Rattle.members.proofs.levels.outside.Lts as lts
-use Rattle.members.proofs.state.next.Reads as next-reads
+use Rattle.members.proofs.state.at_document.Reads as at-document-reads
 
 enum-told : tie.Need-enum-told
 enum-told c = search needs
@@ -27,8 +27,8 @@ enum-told-6 c = search needs
 enum-told-7 : tie.Need-enum-told-7
 enum-told-7 c = search needs
 
-next-requires : tie.Need-next-requires
-next-requires c κs = search needs
+at-document-requires : tie.Need-at-document-requires
+at-document-requires c κs = search needs
 
 enum-told-8 : tie.Need-enum-told-8
 enum-told-8 c = search needs
@@ -52,7 +52,7 @@ returns-6 : tie.Need-returns-6
 returns-6 c = simp (c .enum-told6 .given .1)
 
 returns-7 : tie.Need-returns-7
-returns-7 c = simp (c .before .enum-told7 .given .1, c .next .ensures)
+returns-7 c = simp (c .before .enum-told7 .given .1, c .at-document .ensures)
 
 returns-8 : tie.Need-returns-8
 returns-8 c = simp (c .enum-told8 .given .1)
@@ -68,7 +68,7 @@ outside-spec =
     enum-told-5
     enum-told-6
     enum-told-7
-    next-requires
+    at-document-requires
     enum-told-8
     returns
     returns-2

@@ -6,7 +6,7 @@ use Rattle.members.proofs.principal.in_principals.Reads as reads
 use Rattle.members.proofs.principal.in_principals.Lts as lts
 use Rattle.members.proofs.principal.aws_end.Reads as aws-end-reads
 use Rattle.members.proofs.principal.aws_name.Reads as aws-name-reads
-use Rattle.members.proofs.state.next.Reads as next-reads
+use Rattle.members.proofs.state.at_principal.Reads as at-principal-reads
 
 enum-told : tie.Need-enum-told
 enum-told c = search needs
@@ -20,8 +20,8 @@ aws-name-requires c κs = search needs
 enum-told-3 : tie.Need-enum-told-3
 enum-told-3 c = search needs
 
-next-requires : tie.Need-next-requires
-next-requires c κs = search needs
+at-principal-requires : tie.Need-at-principal-requires
+at-principal-requires c κs = search needs
 
 enum-told-4 : tie.Need-enum-told-4
 enum-told-4 c = search needs
@@ -29,8 +29,8 @@ enum-told-4 c = search needs
 enum-told-5 : tie.Need-enum-told-5
 enum-told-5 c = search needs
 
-next-requires-2 : tie.Need-next-requires-2
-next-requires-2 c κs = search needs
+at-principal-requires-2 : tie.Need-at-principal-requires-2
+at-principal-requires-2 c κs = search needs
 
 enum-told-6 : tie.Need-enum-told-6
 enum-told-6 c = search needs
@@ -51,13 +51,13 @@ returns-2 : tie.Need-returns-2
 returns-2 c = simp (c .before .enum-told2 .given .1, c .aws-name .ensures)
 
 returns-3 : tie.Need-returns-3
-returns-3 c = simp (c .before .enum-told3 .given .1, c .next .ensures)
+returns-3 c = simp (c .before .enum-told3 .given .1, c .at-principal .ensures)
 
 returns-4 : tie.Need-returns-4
 returns-4 c = simp (c .enum-told4 .given .1)
 
 returns-5 : tie.Need-returns-5
-returns-5 c = simp (c .before .enum-told5 .given .1, c .next2 .ensures)
+returns-5 c = simp (c .before .enum-told5 .given .1, c .at-principal2 .ensures)
 
 returns-6 : tie.Need-returns-6
 returns-6 c = simp (c .enum-told6 .given .1)
@@ -76,10 +76,10 @@ in-principals-spec =
     enum-told-2
     aws-name-requires
     enum-told-3
-    next-requires
+    at-principal-requires
     enum-told-4
     enum-told-5
-    next-requires-2
+    at-principal-requires-2
     enum-told-6
     enum-told-7
     enum-told-8

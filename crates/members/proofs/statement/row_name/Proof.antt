@@ -5,7 +5,7 @@ use Rattle.members.proofs.statement.row_name.Statement.{statement}
 use Rattle.members.proofs.statement.row_name.Tie as tie
 use Rattle.members.proofs.statement.row_name.Reads as reads
 use Rattle.members.proofs.statement.row_name.Lts as lts
-use Rattle.members.proofs.state.next.Reads as next-reads
+use Rattle.members.proofs.state.at_statement.Reads as at-statement-reads
 use Rattle.members.proofs.marks.is_bad.Reads as is-bad-reads
 use Rattle.members.proofs.marks.row_slot.Reads as row-slot-reads
 use Rattle.members.proofs.marks.with_mark.Reads as with-mark-reads
@@ -26,11 +26,11 @@ returns c = rw (sym (c .before .before .before .row-kind .ensures .0), sym (c .b
 with-mark-requires : tie.Need-with-mark-requires
 with-mark-requires c κs = search needs
 
-next-requires : tie.Need-next-requires
-next-requires c κs = search needs
+at-statement-requires : tie.Need-at-statement-requires
+at-statement-requires c κs = search needs
 
 returns-2 : tie.Need-returns-2
-returns-2 c = rw (c .next .ensures, c .before .with-mark .ensures, sym (c .before .before .before .before .before .row-kind .ensures .0), sym (c .before .before .before .before .row-slot .ensures .0), sym (c .before .before .before .is-bad .ensures) ∙ c .before .before .if1 .left)
+returns-2 c = rw (c .at-statement .ensures, c .before .with-mark .ensures, sym (c .before .before .before .before .before .row-kind .ensures .0), sym (c .before .before .before .before .row-slot .ensures .0), sym (c .before .before .before .is-bad .ensures) ∙ c .before .before .if1 .left)
 
 pub row-name-spec : {M : Type 1} → statement M
 row-name-spec =
@@ -41,5 +41,5 @@ row-name-spec =
     is-bad-requires
     returns
     with-mark-requires
-    next-requires
+    at-statement-requires
     returns-2)
