@@ -18,16 +18,16 @@ use Rattle.stored.specs.declared.machine.State.{State}
 use Rattle.stored.specs.declared.machine.Turn.{Turn}
 use Rattle.stored.specs.declared.machine.Turn.the-variants as T
 use Rattle.stored.proofs.Numbers.{Numbered, refused-item}
-use Rattle.members.specs.Members.{Verdict, topKind, rowKind, awsKind, operatorKind, keyKind, rowSlot, versionText}
+use Rattle.members.specs.Members.{Verdict, topKind, rowKind, awsKind, operatorKind, keyKind, rowSlot, itself, versionText}
 use Rattle.members.specs.Members.Verdict.{fine, refused}
-use Rattle.members.specs.Faults.{Fault, In, badName, badValue, among, allAmong, memberFaults, alone, textFaults, thisTextFaults, eachTextFaults, stringFaults, operatorFaults, conditionFaults, principalFaults, rowValueFaults, rowFaults, eachRowFaults, rowsFaults, topValueFaults, faults}
+use Rattle.members.specs.Faults.{MemberFault, Lowest, badName, badValue, among, allAmong, memberFaults, textFaults, thisTextFaults, eachTextFaults, stringFaults, operatorFaults, conditionFaults, principalFaults, rowValueFaults, rowFaults, eachRowFaults, rowsFaults, topValueFaults, faults}
 use Rattle.records.specs.Wishes.{Wish}
 use Rattle.records.specs.Wishes.Wish.{made, strange, empty, unread}
 use Rattle.records.specs.Records.{unreadFault, wishTurn, wishPlace, afterWish, running}
 
 -- Members
 
-abbrev Ranged : List Fault → Type 0
+abbrev Ranged : List MemberFault → Type 0
 Ranged [] = Unit {0}
 Ranged (f ∷ fs) = (21 ≤ f .number) × (f .number ≤ 22) × Ranged fs
 
@@ -37,15 +37,15 @@ name n = (omega arith, omega arith, tt)
 bad : (n : ℕ) → Ranged (badValue n)
 bad n = (omega arith, omega arith, tt)
 
-both : (fs gs : List Fault) → Ranged fs → Ranged gs → Ranged (fs ++ gs)
+both : (fs gs : List MemberFault) → Ranged fs → Ranged gs → Ranged (fs ++ gs)
 both [] gs a b = b
 both (f ∷ fs) gs a b = (a .0, a .1, both fs gs (a .2) b)
 
-either : (x : Bool) (fs gs : List Fault) → Ranged fs → Ranged gs → Ranged (pick x fs gs)
+either : (x : Bool) (fs gs : List MemberFault) → Ranged fs → Ranged gs → Ranged (pick x fs gs)
 either true fs gs a b = a
 either false fs gs a b = b
 
-module _ (kindOf : List ℕ → ℕ) (slotOf : ℕ → ℕ) (valueFaults : ℕ → Tree one → List Fault) (needed : List ℕ)
+module _ (kindOf : List ℕ → ℕ) (slotOf : ℕ → ℕ) (valueFaults : ℕ → Tree one → List MemberFault) (needed : List ℕ)
     (fit : (k : ℕ) (v : Tree one) → Ranged (valueFaults k v)) where
   in-members : (seen : List ℕ) (ms : Tree named) → Ranged (memberFaults kindOf slotOf valueFaults needed seen ms)
   in-members seen (end-object n) = either (allAmong seen needed) [] (badValue n) tt (bad n)
@@ -85,19 +85,19 @@ in-operator : (v : Tree one) → Ranged (operatorFaults v)
 in-operator (text n bs) = bad n
 in-operator (other n) = bad n
 in-operator (list n es) = bad n
-in-operator (object n ms) = in-members keyKind alone (λ k v. stringFaults v) [] (λ k v. in-strings v) [] ms
+in-operator (object n ms) = in-members keyKind itself (λ k v. stringFaults v) [] (λ k v. in-strings v) [] ms
 
 in-condition : (v : Tree one) → Ranged (conditionFaults v)
 in-condition (text n bs) = bad n
 in-condition (other n) = bad n
 in-condition (list n es) = bad n
-in-condition (object n ms) = in-members operatorKind alone (λ k v. operatorFaults v) [] (λ k v. in-operator v) [] ms
+in-condition (object n ms) = in-members operatorKind itself (λ k v. operatorFaults v) [] (λ k v. in-operator v) [] ms
 
 in-principal : (v : Tree one) → Ranged (principalFaults v)
 in-principal (text n bs) = either (sameBytes bs (ascii "*")) [] (badValue n) tt (bad n)
 in-principal (other n) = bad n
 in-principal (list n es) = bad n
-in-principal (object n ms) = in-members awsKind alone (λ k v. stringFaults v) (1 ∷ []) (λ k v. in-strings v) [] ms
+in-principal (object n ms) = in-members awsKind itself (λ k v. stringFaults v) (1 ∷ []) (λ k v. in-strings v) [] ms
 
 in-row-value : (k : ℕ) (v : Tree one) → Ranged (rowValueFaults k v)
 in-row-value k v =
@@ -128,14 +128,12 @@ in-document : (v : Tree one) → Ranged (faults v)
 in-document (text n bs) = bad n
 in-document (other n) = bad n
 in-document (list n es) = bad n
-in-document (object n ms) = in-members topKind alone topValueFaults (1 ∷ 2 ∷ []) in-top-value [] ms
+in-document (object n ms) = in-members topKind itself topValueFaults (1 ∷ 2 ∷ []) in-top-value [] ms
 
-one-of : (fs : List Fault) (f : Fault) → In f fs → Ranged fs → (21 ≤ f .number) × (f .number ≤ 22)
-one-of (g ∷ fs) _ In.here r = (r .0, r .1)
-one-of (g ∷ fs) f (In.later i) r = one-of fs f i (r .2)
-
-pub member-number : (v : Tree one) (f : Fault) → In f (faults v) → (21 ≤ f .number) × (f .number ≤ 22)
-member-number v f i = one-of (faults v) f i (in-document v)
+pub member-number : (v : Tree one) (size k p : ℕ) → Lowest size (faults v) k p → (21 ≤ k) × (k ≤ 22)
+member-number v size k p l =
+    let r = rw (l .both) at (in-document v) in
+    (omega (arith, r .0, l .its-number), omega (arith, r .1, l .its-number))
 
 -- Records
 

@@ -13,7 +13,7 @@ use Rattle.json.specs.Trees.{Tree, treeOf}
 use Rattle.json.specs.Trees.Shape.{one}
 use Rattle.json.specs.machinery.Tokens.{tokensOf}
 use Rattle.json.specs.machinery.Reading.{faultOf}
-use Rattle.json.specs.declared.reader.Fault as J
+use Rattle.json.specs.declared.reader.Fault.{Fault}
 use Rattle.json.specs.declared.reader.Fault.the-variants as F
 use Rattle.json.specs.Answers.{Says}
 use Rattle.json.proofs.Promises.{json-first-fault, json-sound, one-fault}
@@ -28,15 +28,14 @@ use Rattle.stored.specs.Reading.{reading}
 use Rattle.stored.specs.declared.reader.ReadAnswer.the-variants as R
 use Rattle.stored.proofs.Promises.{written-so-far, three-elements}
 use Rattle.members.specs.Members.{Verdict}
-use Rattle.members.specs.Faults as M
-use Rattle.members.specs.Faults.{Fault, faults, In, Lowest}
+use Rattle.members.specs.Faults.{faults, Decides}
 use Rattle.members.specs.machinery.Verdicts.{document}
 use Rattle.members.specs.Members.Verdict.{fine, refused}
 use Rattle.members.specs.machinery.Levels.{placed, membersOf}
 use Rattle.members.specs.declared.checking.Checked.{Checked}
 use Rattle.members.specs.declared.checking.Checked.the-variants as C
 use Rattle.members.proofs.FirstFault.{first, first-fault}
-use Rattle.members.proofs.Promises.{json-members, json-lowest}
+use Rattle.members.proofs.Promises.{json-members, json-lowest, one-decision}
 use Rattle.records.specs.Documents.{statementsOf}
 use Rattle.records.specs.TableEntries.{listedEntries, elementEntries, conditionEntries, statementEntries, tableEntries}
 use Rattle.records.specs.Wishes.{Wish, wishes, entries}
@@ -145,16 +144,6 @@ table-reads x h a =
 capped-over : (n : ℕ) → 16384 < n → capped n ≡ 16385
 capped-over n h = rw (lt-ltb 16384 n h)
 
--- the lowest fault is one
-nowhere : {f : Fault} {X : Type 0} (fs : List Fault) → fs ≡ [] → In f fs → X
-nowhere (g ∷ fs) e i = absurd (let z : _≡_ {A = ℕ} 0 1 = cc in omega arith)
-
-lowest-once : (size : ℕ) (fs : List Fault) (k p m q : ℕ) → Lowest size fs k p → Lowest size fs m q → (k ≡ m) × (p ≡ q)
-lowest-once size fs k p m q a b =
-    let here : p ≡ q = omega (arith, a .lowest (b .fault) (b .is-one), b .its-place, b .lowest (a .fault) (a .is-one), a .its-place) in
-    let same = a .only (b .fault) (b .is-one) (b .its-place ∙ sym here) in
-    (sym (a .its-number) ∙ ap (λ (f : Fault). f .number) (sym same) ∙ b .its-number, here)
-
 -- the steps to an outcome
 module _ {t : List ℕ} (buffer : List ℕ) (x : Text t) where
   at-members : outcomeOf t buffer ≡ byMembers t buffer (membersOf t)
@@ -169,13 +158,8 @@ module _ {t : List ℕ} (buffer : List ℕ) (x : Text t) where
 -- what is answered is what the reader finds
 pub found : {t buffer : List ℕ} {r : JsonAnswer} {left : List ℕ} → Answered t buffer r left → outcomeOf t buffer ≡ record { answer = r; left = left }
 found {t} {buffer} (no-text {p} f) = rw (one-fault t (faultOf t) (F.At p) (json-first-fault t) f)
-found {t} {buffer} (wrong-member {k} {p} x l) = at-members buffer x ∙ by (membersOf t) (json-lowest t x)
-  where
-    by : (r : Checked) → M.Says (length t) (faults (documentOf x)) r → byMembers t buffer r ≡ refusing k p buffer
-    by C.Sound e = nowhere (faults (documentOf x)) e (l .is-one)
-    by (C.Refused m q) b =
-        let same = lowest-once (length t) (faults (documentOf x)) m q k p b l in
-        rw (same .0, same .1)
+found {t} {buffer} (wrong-member {k} {p} x l) =
+    at-members buffer x ∙ ap (byMembers t buffer) (one-decision (length t) (faults (documentOf x)) (membersOf t) (C.Refused k p) (json-lowest t x) l)
 found {t} {buffer} (wrong-record {k} {n} x e f) = at-records buffer x e ∙ rw (dried-refused x e k n f)
 found {t} {buffer} (too-long x h a) = at-size buffer x h ∙ rw (capped-over (length (tableOf x)) a)
 found {t} {buffer} (no-room x h a b) =
@@ -205,7 +189,7 @@ module _ {t : List ℕ} (buffer : List ℕ) (x : Text t) where
       some-size (record { members = e; records = f }) (ltb 16384 (length (tableOf x))) (ltb (length buffer) (length (tableOf x))) refl refl
   some-record e (refused k n) f = record { answer = _; left = _; answered = wrong-record x e f }
 
-  some-member : (r : Checked) → M.Says (length t) (faults (documentOf x)) r → Some t buffer
+  some-member : (r : Checked) → Decides (length t) (faults (documentOf x)) r → Some t buffer
   some-member C.Sound e = some-record e (recordsOf (documentOf x)) refl
   some-member (C.Refused k p) l = record { answer = _; left = _; answered = wrong-member x l }
 
@@ -213,7 +197,7 @@ module _ {t : List ℕ} (buffer : List ℕ) (x : Text t) where
 pub some-answer : (t buffer : List ℕ) → Some t buffer
 some-answer t buffer = by (faultOf t) (json-first-fault t)
   where
-    by : (g : J.Fault) → Says t g → Some t buffer
+    by : (g : Fault) → Says t g → Some t buffer
     by F.Nothing x = some-member buffer x (membersOf t) (json-lowest t x)
     by (F.At p) f = record { answer = _; left = _; answered = no-text f }
 

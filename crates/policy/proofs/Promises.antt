@@ -38,9 +38,9 @@ json-first-fault t buffer left p = (λ x. by x refl, λ f. rw (f .1) (no-text (f
   where
     by : {r : JsonAnswer} {rest : List ℕ} → Answered t buffer r rest → r ≡ A.Refused 20 p → FirstFault t p × (rest ≡ buffer)
     by (no-text {p = q} f) e = let same : q ≡ p = cc in (rw (sym same) f, refl)
-    by (wrong-member {k} x l) e =
+    by (wrong-member {k} {p = q} x l) e =
         let same : k ≡ 20 = cc in
-        absurd (omega (arith, member-number (documentOf x) (l .fault) (l .is-one), l .its-number))
+        absurd (omega (arith, member-number (documentOf x) (length t) k q l))
     by (wrong-record {k} {n} x e f) g =
         let same : k ≡ 20 = cc in
         absurd (omega (arith, record-number (wishes (documentOf x)) freshState k n f))
