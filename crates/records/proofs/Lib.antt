@@ -1,4 +1,3 @@
-pub mod Gathering
 pub mod Wished
 pub mod Meeting
 pub mod Seeking

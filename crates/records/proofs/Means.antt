@@ -24,17 +24,17 @@ use Rattle.stored.specs.declared.machine.Turn.the-variants as T
 use Rattle.stored.specs.declared.reader.ReadAnswer.the-variants as A
 use Rattle.stored.specs.declared.writer.Writer.{Writer}
 use Rattle.stored.specs.declared.writer.WriteAnswer.the-variants as W
+use Rattle.stored.specs.Form.{listedFor, elementsFor, conditionsFor, statementsFor}
 use Rattle.stored.proofs.Promises.{read-write, end-ends}
+use Rattle.stored.proofs.FormReads.{table-of-entries}
 use Rattle.members.specs.Members.{Verdict}
 use Rattle.members.specs.Members.Verdict.{fine, refused}
 use Rattle.records.specs.Documents.{statementsOf}
-use Rattle.records.specs.TableEntries.{listedEntries, elementEntries, conditionEntries, statementEntries, tableEntries}
 use Rattle.records.specs.Wishes.{Wish, wishes, entries}
 use Rattle.records.specs.Wishes.Wish.{made, strange, empty, unread}
 use Rattle.records.specs.Records.{wishTurn, wishPlace, afterWish, running, wishSize, sizeOf, recordsOf}
 use Rattle.records.proofs.Wished.{wished}
 use Rattle.records.proofs.Addresses.{all-fit}
-use Rattle.records.proofs.Gathering.{table-of-entries}
 
 abbrev number : Verdict → ℕ
 number fine = 0
@@ -88,29 +88,32 @@ write-all (made n e ∷ ws) s at buffer h a b =
         }
 
 -- the last entry of a table is its end
-listed-behind : (vs : List Listed) (es fs : List Entry) → listedEntries vs (es ++ fs) ≡ listedEntries vs es ++ fs
+listed-behind : (vs : List Listed) (es fs : List Entry) → listedFor vs (es ++ fs) ≡ listedFor vs es ++ fs
 listed-behind [] es fs = refl
 listed-behind (Listed.text bs ∷ vs) es fs = ap (λ (xs : List Entry). value bs ∷ xs) (listed-behind vs es fs)
 listed-behind (Listed.range a n ∷ vs) es fs = ap (λ (xs : List Entry). network a n ∷ xs) (listed-behind vs es fs)
 
-elements-behind : (xs : List Element) (es fs : List Entry) → elementEntries xs (es ++ fs) ≡ elementEntries xs es ++ fs
+elements-behind : (xs : List Element) (es fs : List Entry) → elementsFor xs (es ++ fs) ≡ elementsFor xs es ++ fs
 elements-behind [] es fs = refl
 elements-behind (x ∷ xs) es fs =
-    ap (λ (ys : List Entry). column (x .name) ∷ ys) (ap (listedEntries (x .values)) (elements-behind xs es fs) ∙ listed-behind (x .values) (elementEntries xs es) fs)
+    ap (λ (ys : List Entry). column (x .name) ∷ ys) (ap (listedFor (x .values)) (elements-behind xs es fs) ∙ listed-behind (x .values) (elementsFor xs es) fs)
 
-conditions-behind : (xs : List Condition) (es fs : List Entry) → conditionEntries xs (es ++ fs) ≡ conditionEntries xs es ++ fs
+conditions-behind : (xs : List Condition) (es fs : List Entry) → conditionsFor xs (es ++ fs) ≡ conditionsFor xs es ++ fs
 conditions-behind [] es fs = refl
 conditions-behind (x ∷ xs) es fs =
     ap (λ (ys : List Entry). condition (x .operator) (x .key) ∷ ys)
-    (ap (listedEntries (x .values)) (conditions-behind xs es fs) ∙ listed-behind (x .values) (conditionEntries xs es) fs)
+    (ap (listedFor (x .values)) (conditions-behind xs es fs) ∙ listed-behind (x .values) (conditionsFor xs es) fs)
 
-statements-behind : (xs : List Statement) (es fs : List Entry) → statementEntries xs (es ++ fs) ≡ statementEntries xs es ++ fs
-statements-behind [] es fs = refl
-statements-behind (x ∷ xs) es fs =
-    ap (λ (ys : List Entry). statement (x .effect) ∷ ys)
-    (ap (λ (ys : List Entry). elementEntries (x .elements) (conditionEntries (x .conditions) ys)) (statements-behind xs es fs)
-    ∙ ap (elementEntries (x .elements)) (conditions-behind (x .conditions) (statementEntries xs es) fs)
-    ∙ elements-behind (x .elements) (conditionEntries (x .conditions) (statementEntries xs es)) fs)
+statements-behind : (xs : List Statement) → (es : List Entry) × (statementsFor xs ≡ es ++ (end ∷ []))
+statements-behind [] = ([], refl)
+statements-behind (x ∷ xs) =
+    let r = statements-behind xs in (
+      statement (x .effect) ∷ elementsFor (x .elements) (conditionsFor (x .conditions) (r .0)),
+      ap (λ (ys : List Entry). statement (x .effect) ∷ ys)
+      (ap (λ (ys : List Entry). elementsFor (x .elements) (conditionsFor (x .conditions) ys)) (r .1)
+      ∙ ap (elementsFor (x .elements)) (conditions-behind (x .conditions) (r .0) (end ∷ []))
+      ∙ elements-behind (x .elements) (conditionsFor (x .conditions) (r .0)) (end ∷ [])),
+    )
 
 -- the table that is written
 pub record Meant (v : Tree one) (buffer : List ℕ) : Type 0 where
@@ -127,9 +130,10 @@ pub json-means : (v : Tree one) (buffer : List ℕ) → recordsOf v ≡ fine →
     → Meant v buffer
 json-means v buffer h a b =
     let w = write-all (wishes v) freshState 0 buffer h (omega arith) (omega arith) in
-    let es = start (length (statementsOf v)) ∷ statementEntries (statementsOf v) [] in
+    let front = statements-behind (statementsOf v) in
+    let es = start (length (statementsOf v)) ∷ front .0 in
     let same : entries (wishes v) ≡ es ++ (end ∷ []) =
-        wished v ∙ ap (λ (xs : List Entry). start (length (statementsOf v)) ∷ xs) (statements-behind (statementsOf v) [] (end ∷ [])) in
+        wished v ∙ ap (λ (xs : List Entry). start (length (statementsOf v)) ∷ xs) (front .1) in
     let over : isEnded (w .last .state .phase) ≡ true =
         end-ends es buffer (w .last) (w .left) (subst (λ (xs : List Entry). Writes freshWriter buffer xs (w .last) (w .left)) same (w .writes)) in
     let back = read-write (entries (wishes v)) buffer (w .last) (w .left) (w .writes) (all-fit v) over in

@@ -2,7 +2,6 @@
 -- The promises rest on these definitions, and none of these on machinery.
 pub mod Networks
 pub mod Documents
-pub mod TableEntries
 pub mod Wishes
 pub mod Records
 pub mod machinery

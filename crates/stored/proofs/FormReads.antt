@@ -369,6 +369,9 @@ gathered-statements (s ∷ l) =
     (gathered-elements (s .elements) (conditionsFor (s .conditions) (statementsFor l)) (s .conditions) l
     (gathered-conditions (s .conditions) (statementsFor l) l (gathered-statements l)))
 
+pub table-of-entries : (rows : List Statement) → tableOf (entriesFor rows) ≡ rows
+table-of-entries rows = ap (λ (p : Part). p .rows) (gathered-statements rows)
+
 -- at most 32 statements as the stored form has them, in at most 16,384 bytes, are a table that reads, and are its statements
 pub form-reads : (rows : List Statement) → length rows ≤ 32 → ((s : Statement) → In s rows → WellFormed s × SoundStatement s)
     → AllFit (entriesFor rows) → length (encode (entriesFor rows)) ≤ 16384
@@ -376,4 +379,4 @@ pub form-reads : (rows : List Statement) → length rows ≤ 32 → ((s : Statem
 form-reads rows few h fit short =
     let l = table-taken rows few h in
     let r = reads-back (entriesFor rows) (l .last) (l .leads) (l .ended) fit short in
-    (r .0 ∙ ap A.Accepted (sym (l .counted)), ap tableOf (r .1) ∙ ap (λ (p : Part). p .rows) (gathered-statements rows))
+    (r .0 ∙ ap A.Accepted (sym (l .counted)), ap tableOf (r .1) ∙ table-of-entries rows)
