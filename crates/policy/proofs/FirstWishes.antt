@@ -11,7 +11,7 @@ use Rattle.policy.specs.machinery.Runs.{wishesOf}
 
 pub first-wishes : (t : List ℕ) → wishesLeft t firstCursor ≡ wishesOf t
 unfolding tokensOf wishesOf
-first-wishes t = ?
+first-wishes t = refl
 
 -- with each wish fewer are left
 pub fewer : (x : Wish) (rest ws : List Wish) → ws ≡ x ∷ rest → length rest < length ws

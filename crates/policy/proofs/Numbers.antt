@@ -18,9 +18,9 @@ use Rattle.stored.specs.declared.machine.State.{State}
 use Rattle.stored.specs.declared.machine.Turn.{Turn}
 use Rattle.stored.specs.declared.machine.Turn.the-variants as T
 use Rattle.stored.proofs.Numbers.{Numbered, refused-item}
-use Rattle.members.specs.Members.{Verdict, topKind, rowKind, awsKind, operatorKind, keyKind, rowSlot, versionText}
+use Rattle.members.specs.Members.{Verdict, topKind, rowKind, awsKind, operatorKind, keyKind, rowSlot, itself, versionText}
 use Rattle.members.specs.Members.Verdict.{fine, refused}
-use Rattle.members.specs.Faults.{MemberFault, Lowest, badName, badValue, among, allAmong, memberFaults, alone, textFaults, thisTextFaults, eachTextFaults, stringFaults, operatorFaults, conditionFaults, principalFaults, rowValueFaults, rowFaults, eachRowFaults, rowsFaults, topValueFaults, faults}
+use Rattle.members.specs.Faults.{MemberFault, Lowest, badName, badValue, among, allAmong, memberFaults, textFaults, thisTextFaults, eachTextFaults, stringFaults, operatorFaults, conditionFaults, principalFaults, rowValueFaults, rowFaults, eachRowFaults, rowsFaults, topValueFaults, faults}
 use Rattle.records.specs.Wishes.{Wish}
 use Rattle.records.specs.Wishes.Wish.{made, strange, empty, unread}
 use Rattle.records.specs.Records.{unreadFault, wishTurn, wishPlace, afterWish, running}
@@ -85,19 +85,19 @@ in-operator : (v : Tree one) → Ranged (operatorFaults v)
 in-operator (text n bs) = bad n
 in-operator (other n) = bad n
 in-operator (list n es) = bad n
-in-operator (object n ms) = in-members keyKind alone (λ k v. stringFaults v) [] (λ k v. in-strings v) [] ms
+in-operator (object n ms) = in-members keyKind itself (λ k v. stringFaults v) [] (λ k v. in-strings v) [] ms
 
 in-condition : (v : Tree one) → Ranged (conditionFaults v)
 in-condition (text n bs) = bad n
 in-condition (other n) = bad n
 in-condition (list n es) = bad n
-in-condition (object n ms) = in-members operatorKind alone (λ k v. operatorFaults v) [] (λ k v. in-operator v) [] ms
+in-condition (object n ms) = in-members operatorKind itself (λ k v. operatorFaults v) [] (λ k v. in-operator v) [] ms
 
 in-principal : (v : Tree one) → Ranged (principalFaults v)
 in-principal (text n bs) = either (sameBytes bs (ascii "*")) [] (badValue n) tt (bad n)
 in-principal (other n) = bad n
 in-principal (list n es) = bad n
-in-principal (object n ms) = in-members awsKind alone (λ k v. stringFaults v) (1 ∷ []) (λ k v. in-strings v) [] ms
+in-principal (object n ms) = in-members awsKind itself (λ k v. stringFaults v) (1 ∷ []) (λ k v. in-strings v) [] ms
 
 in-row-value : (k : ℕ) (v : Tree one) → Ranged (rowValueFaults k v)
 in-row-value k v =
@@ -128,11 +128,11 @@ in-document : (v : Tree one) → Ranged (faults v)
 in-document (text n bs) = bad n
 in-document (other n) = bad n
 in-document (list n es) = bad n
-in-document (object n ms) = in-members topKind alone topValueFaults (1 ∷ 2 ∷ []) in-top-value [] ms
+in-document (object n ms) = in-members topKind itself topValueFaults (1 ∷ 2 ∷ []) in-top-value [] ms
 
 pub member-number : (v : Tree one) (size k p : ℕ) → Lowest size (faults v) k p → (21 ≤ k) × (k ≤ 22)
 member-number v size k p l =
-    let r = subst Ranged (l .both) (in-document v) in
+    let r = rw (l .both) at (in-document v) in
     (omega (arith, r .0, l .its-number), omega (arith, r .1, l .its-number))
 
 -- Records

@@ -13,7 +13,7 @@ use Rattle.json.specs.Trees.{Tree, treeOf}
 use Rattle.json.specs.Trees.Shape.{one}
 use Rattle.json.specs.machinery.Tokens.{tokensOf}
 use Rattle.json.specs.machinery.Reading.{faultOf}
-use Rattle.json.specs.declared.reader.Fault as J
+use Rattle.json.specs.declared.reader.Fault.{Fault}
 use Rattle.json.specs.declared.reader.Fault.the-variants as F
 use Rattle.json.specs.Answers.{Says}
 use Rattle.json.proofs.Promises.{json-first-fault, json-sound, one-fault}
@@ -21,6 +21,8 @@ use Rattle.json.proofs.Tokenizing.{text-tokens}
 use Rattle.stored.specs.Machine.{freshState}
 use Rattle.stored.specs.Writing.{freshWriter}
 use Rattle.stored.specs.Entries.{Entry, encode, Writes}
+use Rattle.stored.specs.Entries.Entry.{start, statement, column, condition, network, value, end}
+use Rattle.stored.specs.Form.{listedFor, elementsFor, conditionsFor, statementsFor, entriesFor}
 use Rattle.stored.specs.Tables.{Listed, Element, Condition, Statement, rowsOf}
 use Rattle.stored.specs.Reading.{reading}
 use Rattle.stored.specs.declared.reader.ReadAnswer.the-variants as R
@@ -35,6 +37,7 @@ use Rattle.members.specs.declared.checking.Checked.the-variants as C
 use Rattle.members.proofs.FirstFault.{first, first-fault}
 use Rattle.members.proofs.Promises.{json-members, json-lowest, one-decision}
 use Rattle.records.specs.Documents.{statementsOf}
+use Rattle.records.specs.TableEntries.{listedEntries, elementEntries, conditionEntries, statementEntries, tableEntries}
 use Rattle.records.specs.Wishes.{Wish, wishes, entries}
 use Rattle.records.specs.Records.{running, sizeOf, recordsOf}
 use Rattle.records.specs.machinery.Streams.{documentFrom}
@@ -61,6 +64,34 @@ same-wishes : {t : List ℕ} (x : Text t) → faults (documentOf x) ≡ [] → w
 unfolding wishesOf
 same-wishes x e = ap documentFrom (text-tokens x) ∙ document-from (documentOf x) [] (no-fault x e)
 
+-- the entries of statements, said in two ways
+same-listed : (vs : List Listed) (es : List Entry) → listedEntries vs es ≡ listedFor vs es
+same-listed [] es = refl
+same-listed (Listed.text bs ∷ vs) es = ap (λ (xs : List Entry). value bs ∷ xs) (same-listed vs es)
+same-listed (Listed.range a n ∷ vs) es = ap (λ (xs : List Entry). network a n ∷ xs) (same-listed vs es)
+
+same-elements : (xs : List Element) (es : List Entry) → elementEntries xs es ≡ elementsFor xs es
+same-elements [] es = refl
+same-elements (x ∷ xs) es =
+    ap (λ (ys : List Entry). column (x .name) ∷ ys) (same-listed (x .values) (elementEntries xs es) ∙ ap (listedFor (x .values)) (same-elements xs es))
+
+same-conditions : (xs : List Condition) (es : List Entry) → conditionEntries xs es ≡ conditionsFor xs es
+same-conditions [] es = refl
+same-conditions (x ∷ xs) es =
+    ap (λ (ys : List Entry). condition (x .operator) (x .key) ∷ ys)
+    (same-listed (x .values) (conditionEntries xs es) ∙ ap (listedFor (x .values)) (same-conditions xs es))
+
+same-statements : (xs : List Statement) → statementEntries xs (end ∷ []) ≡ statementsFor xs
+same-statements [] = refl
+same-statements (x ∷ xs) =
+    ap (λ (ys : List Entry). statement (x .effect) ∷ ys)
+    (same-elements (x .elements) (conditionEntries (x .conditions) (statementEntries xs (end ∷ [])))
+    ∙ ap (elementsFor (x .elements))
+    (same-conditions (x .conditions) (statementEntries xs (end ∷ [])) ∙ ap (conditionsFor (x .conditions)) (same-statements xs)))
+
+wished-for : (v : Tree one) → entries (wishes v) ≡ entriesFor (statementsOf v)
+wished-for v = wished v ∙ ap (λ (xs : List Entry). start (length (statementsOf v)) ∷ xs) (same-statements (statementsOf v))
+
 -- the dry run of a text without a 20, 21 or 22
 module _ {t : List ℕ} (x : Text t) (fit : faults (documentOf x) ≡ []) where
   dried-document : driedOf t ≡ dried (length t) (sizeOf (wishes (documentOf x))) (recordsOf (documentOf x))
@@ -70,7 +101,7 @@ module _ {t : List ℕ} (x : Text t) (fit : faults (documentOf x) ≡ []) where
       ∙ (let e : 0 + sizeOf (wishes (documentOf x)) ≡ sizeOf (wishes (documentOf x)) = omega arith in rw e)
 
   size-table : recordsOf (documentOf x) ≡ fine → sizeOf (wishes (documentOf x)) ≡ length (tableOf x)
-  size-table h = size-encode (wishes (documentOf x)) freshState h ∙ ap (λ (es : List Entry). length (encode es)) (wished (documentOf x))
+  size-table h = size-encode (wishes (documentOf x)) freshState h ∙ ap (λ (es : List Entry). length (encode es)) (wished-for (documentOf x))
 
   pub dried-fine : recordsOf (documentOf x) ≡ fine → driedOf t ≡ D.Fine (capped (length (tableOf x)))
   dried-fine h = dried-document ∙ rw (h, size-table h)
@@ -87,7 +118,7 @@ module _ {t : List ℕ} (x : Text t) (fit : faults (documentOf x) ≡ []) where
       let m = json-means v buffer h (omega arith) (omega arith) in
       let so-far = written-so-far (entries (wishes v)) buffer (m .last) (m .left) (m .writes) in
       let long : m .last .at ≡ length (tableOf x) = m .size ∙ s in
-      let front : take (m .last .at) (m .left) ≡ tableOf x = so-far .1 ∙ ap encode (wished v) in
+      let front : take (m .last .at) (m .left) ≡ tableOf x = so-far .1 ∙ ap encode (wished-for v) in
       let whole : m .left ≡ tableOf x ++ drop (length (tableOf x)) buffer =
           sym (take-append-drop (m .last .at) (m .left))
           ∙ ap (λ (ys : List ℕ). ys ++ drop (m .last .at) (m .left)) front
@@ -104,7 +135,7 @@ table-reads x h a =
     let s = size-table x (h .members) (h .records) in
     let m = json-means v (tableOf x) (h .records) (omega arith) (omega arith) in
     let so-far = written-so-far (entries (wishes v)) (tableOf x) (m .last) (m .left) (m .writes) in
-    let front : take (m .last .at) (m .left) ≡ tableOf x = so-far .1 ∙ ap encode (wished v) in
+    let front : take (m .last .at) (m .left) ≡ tableOf x = so-far .1 ∙ ap encode (wished-for v) in
     let reads : reading (tableOf x) ≡ R.Accepted (m .last .state .rows) = ap reading (sym front) ∙ m .reads in
     let rows : rowsOf (tableOf x) ≡ statementsOf v = ap (λ (t : List ℕ). rowsOf t) (sym front) ∙ m .says in
     let count : m .last .state .rows ≡ length (statementsOf v) = sym (three-elements (tableOf x) (m .last .state .rows) reads .0) ∙ ap (λ (l : List Statement). length l) rows in
@@ -128,8 +159,7 @@ module _ {t : List ℕ} (buffer : List ℕ) (x : Text t) where
 pub found : {t buffer : List ℕ} {r : JsonAnswer} {left : List ℕ} → Answered t buffer r left → outcomeOf t buffer ≡ record { answer = r; left = left }
 found {t} {buffer} (no-text {p} f) = rw (one-fault t (faultOf t) (F.At p) (json-first-fault t) f)
 found {t} {buffer} (wrong-member {k} {p} x l) =
-    at-members buffer x
-    ∙ ap (byMembers t buffer) (one-decision (length t) (faults (documentOf x)) (membersOf t) (C.Refused k p) (json-lowest t x) l)
+    at-members buffer x ∙ ap (byMembers t buffer) (one-decision (length t) (faults (documentOf x)) (membersOf t) (C.Refused k p) (json-lowest t x) l)
 found {t} {buffer} (wrong-record {k} {n} x e f) = at-records buffer x e ∙ rw (dried-refused x e k n f)
 found {t} {buffer} (too-long x h a) = at-size buffer x h ∙ rw (capped-over (length (tableOf x)) a)
 found {t} {buffer} (no-room x h a b) =
@@ -167,7 +197,7 @@ module _ {t : List ℕ} (buffer : List ℕ) (x : Text t) where
 pub some-answer : (t buffer : List ℕ) → Some t buffer
 some-answer t buffer = by (faultOf t) (json-first-fault t)
   where
-    by : (g : J.Fault) → Says t g → Some t buffer
+    by : (g : Fault) → Says t g → Some t buffer
     by F.Nothing x = some-member buffer x (membersOf t) (json-lowest t x)
     by (F.At p) f = record { answer = _; left = _; answered = no-text f }
 

@@ -37,8 +37,8 @@ pub json-first-fault : (t buffer left : List ℕ) (p : ℕ) → Answered t buffe
 json-first-fault t buffer left p = (λ x. by x refl, λ f. rw (f .1) (no-text (f .0)))
   where
     by : {r : JsonAnswer} {rest : List ℕ} → Answered t buffer r rest → r ≡ A.Refused 20 p → FirstFault t p × (rest ≡ buffer)
-    by (no-text {q} f) e = let same : q ≡ p = cc in (rw (sym same) f, refl)
-    by (wrong-member {k} {q} x l) e =
+    by (no-text {p = q} f) e = let same : q ≡ p = cc in (rw (sym same) f, refl)
+    by (wrong-member {k} {p = q} x l) e =
         let same : k ≡ 20 = cc in
         absurd (omega (arith, member-number (documentOf x) (length t) k q l))
     by (wrong-record {k} {n} x e f) g =
