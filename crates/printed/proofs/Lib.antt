@@ -1,0 +1,3 @@
+-- Why a printed text says what was printed: a file for each concept.
+pub mod Printing
+pub mod NetworksRead
