@@ -1,3 +1,6 @@
 -- Why a printed text says what was printed: a file for each concept.
 pub mod Printing
 pub mod NetworksRead
+pub mod Marks
+pub mod ValuesSaid
+pub mod Names
