@@ -4,3 +4,5 @@ pub mod NetworksRead
 pub mod Marks
 pub mod ValuesSaid
 pub mod Names
+pub mod Grouping
+pub mod ConditionsSaid

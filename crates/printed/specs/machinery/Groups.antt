@@ -1,5 +1,6 @@
 -- Conditions by their operators: neighbours of one operator make a group.
 use Prim.Native.Nat.{ℕ}
+use mathlib.Core.Path.{_≡_}
 use mathlib.Core.List.{List, [], _∷_}
 use mathlib.Core.Bool.{Bool}
 use lib.Dec.{eqb}
@@ -62,3 +63,20 @@ joined o k (g ∷ gs) =
 abbrev pub groupsOf : List Condition → List Group
 groupsOf [] = []
 groupsOf (c ∷ cs) = joined (c .operator) (record { key = c .key; values = c .values }) (groupsOf cs)
+
+-- each operator has one group, and in it each key stands once
+abbrev pub NoKey : Key → List Keyed → Type 0
+NoKey k [] = Unit {0}
+NoKey k (x ∷ xs) = (x .key ≡ k → ⊥) × NoKey k xs
+
+abbrev pub KeysOnce : List Keyed → Type 0
+KeysOnce [] = Unit {0}
+KeysOnce (x ∷ xs) = NoKey (x .key) xs × KeysOnce xs
+
+abbrev pub NoOperator : Operator → List Group → Type 0
+NoOperator o [] = Unit {0}
+NoOperator o (g ∷ gs) = (g .operator ≡ o → ⊥) × NoOperator o gs
+
+abbrev pub GroupsOnce : List Group → Type 0
+GroupsOnce [] = Unit {0}
+GroupsOnce (g ∷ gs) = NoOperator (g .operator) gs × KeysOnce (g .keys) × GroupsOnce gs
