@@ -6,3 +6,6 @@ pub mod ValuesSaid
 pub mod Names
 pub mod Grouping
 pub mod ConditionsSaid
+pub mod ColumnForms
+pub mod RowsSaid
+pub mod DocumentsSaid
