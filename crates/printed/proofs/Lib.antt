@@ -9,3 +9,4 @@ pub mod ConditionsSaid
 pub mod ColumnForms
 pub mod RowsSaid
 pub mod DocumentsSaid
+pub mod Addresses
