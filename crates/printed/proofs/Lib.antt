@@ -10,3 +10,4 @@ pub mod ColumnForms
 pub mod RowsSaid
 pub mod DocumentsSaid
 pub mod Addresses
+pub mod EveryTable

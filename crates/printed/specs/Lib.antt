@@ -1,4 +1,5 @@
--- Which statements a JSON text can say.
+-- Which tables JSON texts make.
 -- The promises rest on these definitions, and none of these on machinery.
 pub mod Grouped
+pub mod Makes
 pub mod machinery
