@@ -11,3 +11,4 @@ pub mod RowsSaid
 pub mod DocumentsSaid
 pub mod Addresses
 pub mod EveryTable
+pub mod OnceInTrees
