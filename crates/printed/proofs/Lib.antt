@@ -12,3 +12,5 @@ pub mod DocumentsSaid
 pub mod Addresses
 pub mod EveryTable
 pub mod OnceInTrees
+pub mod OtherTables
+pub mod Promises
