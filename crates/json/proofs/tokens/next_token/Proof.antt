@@ -1,9 +1,8 @@
 -- The invariant: the tokens from the place at hand are those from the place asked for; no token was passed over.
-use Prim.Native.Nat.{ℕ, _+_, _-_, _≤_, _<_}
-use mathlib.Core.Path.{_≡_, refl, sym, _∙_, ap}
+use Prim.Native.Nat.{_+_, _-_, _≤_}
+use mathlib.Core.Path.{_≡_, sym, _∙_, ap}
 use native.Mathlib.Omega.{arith}
-use lib.ListN.{length, drop, getD}
-use Rattle.json.specs.machinery.Events.{eventOf}
+use lib.ListN.{length, drop}
 use Rattle.json.specs.machinery.Tokens.{mark, tokensFrom}
 use Rattle.json.specs.machinery.Marks.{isNothing}
 use Rattle.json.specs.declared.events.Event.{Event}
@@ -12,11 +11,6 @@ use Rattle.json.proofs.Walking.{taken, passed, broken, none-left}
 use borrow.Author.Needs.{needs}
 use Rattle.json.proofs.tokens.next_token.Statement.{statement}
 use Rattle.json.proofs.tokens.next_token.Tie as tie
-use Rattle.json.proofs.tokens.next_token.Reads as reads
-use Rattle.json.proofs.tokens.next_token.Lts as lts
-use Rattle.json.proofs.events.event_of.Reads as event-of-reads
-use Rattle.json.proofs.machine.step.Reads as step-reads
-use Rattle.json.proofs.tokens.is_nothing.Reads as is-nothing-reads
 
 abbrev Inv-loop : tie.InvT-loop
 Inv-loop text stack state₀ at₀ state at =
