@@ -1,19 +1,18 @@
 -- The networks of a table have addresses of 32 bits.
-use Prim.Native.Nat.{ℕ, zero, suc, _+_, _*_, _-_, _^_, _<_}
-use mathlib.Core.Path.{_≡_, refl}
+use Prim.Native.Nat.{ℕ, zero, suc, _+_, _-_, _^_, _<_}
 use mathlib.Core.Bool.{Bool, true, false}
 use mathlib.Core.List.{List, [], _∷_}
-use mathlib.Core.Logic.{_⊎_, inl, inr}
+use mathlib.Core.Logic.{inl, inr}
 use lib.Dec.{eqb, ltb}
 use lib.ListN.{length, getD, take, drop}
 use native.Mathlib.Omega.{arith}
 use Rattle.stored.specs.Choice.{pick, In}
 use Rattle.stored.specs.Items.{keyOf}
 use Rattle.stored.specs.Operators.{operatorOf}
-use Rattle.stored.specs.Records.{kindOf, sizeOf, statementOf, columnOf, conditionOfFound, decodeOf, known, recordBehind, recordAt}
+use Rattle.stored.specs.Records.{kindOf, sizeOf, conditionOfFound, decodeOf, known, recordBehind, recordAt}
 use Rattle.stored.specs.Entries.{Entry, entryOf, walk, entriesFrom, entriesOf, afterRecord, Bytes, AllFit}
 use Rattle.stored.specs.Tables.{Listed, Element, Condition, Statement}
-use Rattle.stored.specs.Form.{listedFor, elementsFor, conditionsFor, statementsFor, entriesFor}
+use Rattle.stored.specs.Form.{listedFor, elementsFor, conditionsFor, statementsFor}
 use Rattle.stored.specs.declared.items.Effect.the-variants as E
 use Rattle.stored.specs.declared.items.Column.the-variants as C
 use Rattle.stored.specs.declared.items.Item.{Item}
@@ -57,11 +56,11 @@ statement-fits false false = tt
 
 column-fits : (a b c d e f : Bool)
     → DecodedFits
-      (pick a (D.Known (I.Column C.Principal))
-      (pick b (D.Known (I.Column C.Action))
-      (pick c (D.Known (I.Column C.Resource))
-      (pick d (D.Known (I.Column C.NotPrincipal))
-      (pick e (D.Known (I.Column C.NotAction)) (pick f (D.Known (I.Column C.NotResource)) D.Strange))))))
+    (pick a (D.Known (I.Column C.Principal))
+    (pick b (D.Known (I.Column C.Action))
+    (pick c (D.Known (I.Column C.Resource))
+    (pick d (D.Known (I.Column C.NotPrincipal))
+    (pick e (D.Known (I.Column C.NotAction)) (pick f (D.Known (I.Column C.NotResource)) D.Strange))))))
 column-fits true b c d e f = tt
 column-fits false true c d e f = tt
 column-fits false false true d e f = tt

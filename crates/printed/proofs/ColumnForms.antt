@@ -3,14 +3,14 @@ use Prim.Native.Nat.{ℕ}
 use mathlib.Core.Path.{_≡_, refl}
 use mathlib.Core.List.{List, [], _∷_}
 use lib.ListN.{length}
-use Rattle.json.specs.Trees.{Shape, Tree}
+use Rattle.json.specs.Trees.{Tree}
 use Rattle.json.specs.Trees.Shape.{one, several, named}
 use Rattle.json.proofs.Choosing.{never}
 use Rattle.members.specs.Members as Mb
 use Rattle.members.specs.Members.{following, place, topNames, rowNames, versionText, topKind, rowKind, awsKind, isSeen}
 use Rattle.members.specs.Members.Verdict.{fine}
 use Rattle.stored.specs.Items.{columnPlace}
-use Rattle.stored.specs.Entries.Entry.{start, statement, column, condition, network, value, end}
+use Rattle.stored.specs.Entries.Entry.{start, statement, column, end}
 use Rattle.stored.specs.Tables.{Statement}
 use Rattle.stored.specs.declared.items.Effect.{Effect}
 use Rattle.stored.specs.declared.items.Effect.the-variants as E
@@ -100,10 +100,10 @@ module _ (p : Parts) where
       record {
         effect = effectOf (p .effect);
         elements =
-          record { name = c0; values = listed S.Text (strings (holder (p .v0))) }
-          ∷ record { name = c1; values = listed S.Text (strings (p .v1)) }
-          ∷ record { name = c2; values = listed S.Text (strings (p .v2)) }
-          ∷ [];
+            record { name = c0; values = listed S.Text (strings (holder (p .v0))) }
+            ∷ record { name = c1; values = listed S.Text (strings (p .v1)) }
+            ∷ record { name = c2; values = listed S.Text (strings (p .v2)) }
+            ∷ [];
         conditions = conditionsOf (membersOf (p .v3));
       }
 

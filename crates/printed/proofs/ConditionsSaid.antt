@@ -1,28 +1,27 @@
 -- The printed conditions: they have no fault, they say the conditions, and each of them is wished for.
-use Prim.Native.Nat.{ℕ, suc, _≤_, _<_}
+use Prim.Native.Nat.{ℕ, suc, _<_}
 use mathlib.Core.Path.{_≡_, refl, sym, _∙_, ap, subst}
-use mathlib.Core.Bool.{Bool, true, false, _||_}
+use mathlib.Core.Bool.{Bool, true, false}
 use mathlib.Core.List.{List, [], _∷_}
-use mathlib.Core.Logic.{_⊎_, inl, inr}
+use mathlib.Core.Logic.{inl, inr}
 use lib.Dec.{eqb}
 use lib.ListN.{length}
 use native.Mathlib.Omega.{arith}
 use borrow.Author.Tests.{ne-eqb}
-use Rattle.json.specs.Trees.{Tree}
 use Rattle.members.specs.Members as Mb
 use Rattle.members.specs.Members.{isSeen, add}
 use Rattle.members.specs.Members.Verdict.{fine}
 use Rattle.stored.specs.Choice.{pick, In}
 use Rattle.stored.specs.Operators.{rowOf}
-use Rattle.stored.specs.Tables.{Listed, Condition}
+use Rattle.stored.specs.Tables.{Condition}
 use Rattle.stored.specs.declared.items.Operator.{Operator}
 use Rattle.stored.specs.declared.items.Key.{Key}
 use Rattle.stored.specs.declared.items.Sort.{Sort}
-use Rattle.records.specs.Documents.{operatorAt, keyAt, listed, each, conditionsUnder, conditionsOf}
-use Rattle.records.specs.Wishes.{Wish, listWishes, keyWishes, operatorWishes}
-use Rattle.printed.specs.machinery.Values.{Value, Sound, located, print}
+use Rattle.records.specs.Documents.{operatorAt, keyAt, conditionsUnder, conditionsOf}
+use Rattle.records.specs.Wishes.{Wish, keyWishes, operatorWishes}
+use Rattle.printed.specs.machinery.Values.{Sound, located, print}
 use Rattle.printed.specs.machinery.Groups.{operatorNumber, keyNumber, Keyed, Group, keyedConditions, groupConditions, isOf, joined, groupsOf, NoKey, KeysOnce, NoOperator, GroupsOnce}
-use Rattle.printed.specs.machinery.Plans.{operatorName, keyName, listedValues, keyMembers, groupMembers}
+use Rattle.printed.specs.machinery.Plans.{listedValues, keyMembers, groupMembers}
 use Rattle.printed.proofs.Grouping.{same-operator}
 use Rattle.printed.proofs.Marks.{none-seen, seen-more}
 use Rattle.printed.proofs.Names.{operator-back, key-back, operator-some, key-some, operator-kind, key-kind, operator-shown, key-shown}
@@ -59,11 +58,10 @@ keys-fresh seen j (k ∷ ks) n h =
 
 groups-fresh : (seen : ℕ) (o : Operator) (gs : List Group) → NoOperator o gs → GroupsFresh seen gs → GroupsFresh (add seen (operatorNumber o)) gs
 groups-fresh seen o [] n h = tt
-groups-fresh seen o (g ∷ gs) n h =
-    (
-      seen-more seen (operatorNumber o) (operatorNumber (g .operator)) ∙ rw (h .0, other-operator o (g .operator) (n .0)),
-      groups-fresh seen o gs (n .1) (h .1),
-    )
+groups-fresh seen o (g ∷ gs) n h = (
+  seen-more seen (operatorNumber o) (operatorNumber (g .operator)) ∙ rw (h .0, other-operator o (g .operator) (n .0)),
+  groups-fresh seen o gs (n .1) (h .1),
+)
 
 keys-start : (ks : List Keyed) → KeysFresh 0 ks
 keys-start [] = tt

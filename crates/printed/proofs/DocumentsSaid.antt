@@ -1,20 +1,16 @@
 -- The printed document: it has no fault, it says the statements, and none of its records is refused.
-use Prim.Native.Nat.{ℕ, suc, _≤_, _<_}
+use Prim.Native.Nat.{ℕ, suc}
 use mathlib.Core.Path.{_≡_, refl, sym, _∙_, ap, subst}
-use mathlib.Core.Bool.{Bool, true, false}
+use mathlib.Core.Bool.{true, false}
 use mathlib.Core.List.{List, [], _∷_}
-use mathlib.Core.Logic.{_⊎_, inl, inr}
 use lib.ListN.{length}
 use native.Mathlib.Omega.{arith}
-use Rattle.json.specs.Trees.{Shape, Tree, treeOf}
+use Rattle.json.specs.Trees.{Tree, treeOf}
 use Rattle.json.specs.Trees.Shape.{one, several, named}
 use Rattle.json.specs.Grammar.{Text}
 use Rattle.members.specs.Members as Mb
 use Rattle.members.specs.Members.{versionText}
 use Rattle.members.specs.Members.Verdict.{fine}
-use Rattle.stored.specs.Choice.{In}
-use Rattle.stored.specs.Machine.{freshState}
-use Rattle.stored.specs.Entries.{Entry}
 use Rattle.stored.specs.Entries.Entry.{end}
 use Rattle.stored.specs.Tables.{Statement}
 use Rattle.stored.specs.declared.machine.State.{State}
@@ -22,10 +18,9 @@ use Rattle.stored.specs.machinery.Following.{Follows}
 use Rattle.records.specs.Documents.{eachStatement, statementsOf}
 use Rattle.records.specs.Wishes.{Wish, rowWishes, wishes, entries}
 use Rattle.records.specs.Wishes.Wish.{made, strange, empty, unread}
-use Rattle.records.specs.Records.{running, recordsOf}
+use Rattle.records.specs.Records.{running}
 use Rattle.printed.specs.machinery.Values.{Value, Sound, located, letters, print}
-use Rattle.printed.specs.machinery.Groups.{groupsOf}
-use Rattle.printed.specs.machinery.Plans.{versionName, statementName, statementMembers, statementValues, documentValue, printed}
+use Rattle.printed.specs.machinery.Plans.{versionName, statementName, statementValues, documentValue, printed}
 use Rattle.printed.proofs.Printing.{text-of, text-tree}
 use Rattle.printed.proofs.Names.{version-name-shown, statement-name-shown, version-shown}
 use Rattle.printed.proofs.ValuesSaid.{AllMade}

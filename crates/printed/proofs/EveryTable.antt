@@ -1,8 +1,8 @@
 -- A table whose conditions stand by their operators is what the text that prints its statements makes.
-use Prim.Native.Nat.{ℕ, _≤_, _<_}
+use Prim.Native.Nat.{ℕ, _<_}
 use mathlib.Core.Path.{_≡_, refl, sym, _∙_, ap, subst}
 use mathlib.Core.List.{List, [], _∷_}
-use mathlib.Core.Logic.{_⊎_, inl, inr}
+use mathlib.Core.Logic.{inl, inr}
 use lib.ListN.{length}
 use Rattle.json.specs.Trees.{treeOf}
 use Rattle.stored.specs.Choice.{In}
@@ -10,11 +10,11 @@ use Rattle.stored.specs.Operators.{rowOf}
 use Rattle.stored.specs.Items.{keySort}
 use Rattle.stored.specs.Machine.{freshState}
 use Rattle.stored.specs.Reading.{reading}
-use Rattle.stored.specs.Entries.{Entry, encode, entriesOf, Bytes, AllFit}
-use Rattle.stored.specs.Entries.Entry.{start, statement, column, condition, network, value, end}
+use Rattle.stored.specs.Entries.{Entry, encode, Bytes, AllFit}
+use Rattle.stored.specs.Entries.Entry.{start, network, value, end}
 use Rattle.stored.specs.machinery.Following.{Follows}
 use Rattle.stored.specs.Tables.{Listed, Element, Condition, Statement, rowsOf}
-use Rattle.stored.specs.Form.{listedFor, elementsFor, conditionsFor, statementsFor, entriesFor, MayHold, WellFormed, SoundStatement}
+use Rattle.stored.specs.Form.{listedFor, elementsFor, conditionsFor, statementsFor, entriesFor, WellFormed, SoundStatement}
 use Rattle.stored.specs.declared.items.Sort.{Sort}
 use Rattle.stored.specs.declared.items.Sort.the-variants as S
 use Rattle.stored.specs.declared.reader.ReadAnswer.the-variants as A
@@ -22,7 +22,6 @@ use Rattle.stored.proofs.Promises.{three-elements, sound-values, whole-rows}
 use Rattle.stored.proofs.Accepting.{accepted, read-through}
 use Rattle.stored.proofs.EntriesFor.{stands-for}
 use Rattle.records.specs.TableEntries.{listedEntries, elementEntries, conditionEntries, statementEntries, tableEntries}
-use Rattle.records.specs.Documents.{statementsOf}
 use Rattle.records.specs.Wishes.{wishes, entries}
 use Rattle.records.proofs.Wished.{wished}
 use Rattle.printed.specs.Grouped.{Grouped}
@@ -62,19 +61,18 @@ ready : (s : Statement) → WellFormed s → SoundStatement s → SmallRow s →
 ready s w v m g =
     record {
       elements-are =
-        three-of (s .elements) (w .in-order)
-        (λ e i. (holds S.Text (e .values) (v .elements e i .holds) (m .elements e i), w .elements-filled e i));
+          three-of (s .elements) (w .in-order)
+          (λ e i. (holds S.Text (e .values) (v .elements e i .holds) (m .elements e i), w .elements-filled e i));
       once = groups-once (s .conditions) (g .together) (g .none-twice);
       hold = groups-hold (s .conditions) each;
     }
   where
     each : (c : Condition) → In c (s .conditions) → Holds (rowOf (c .operator) .sort) (c .values) × (0 < length (c .values))
-    each c i =
-        (
-          subst (λ (x : Sort). Holds x (c .values)) (sym (v .conditions c i .one-sort))
+    each c i = (
+      subst (λ (x : Sort). Holds x (c .values)) (sym (v .conditions c i .one-sort))
           (holds (keySort (c .key)) (c .values) (v .conditions c i .holds) (m .conditions c i)),
-          w .conditions-filled c i,
-        )
+      w .conditions-filled c i,
+    )
 
 all-ready : (rows : List Statement) → ((s : Statement) → In s rows → Ready s) → AllReady rows
 all-ready [] f = tt
@@ -102,7 +100,7 @@ module _ (table : List ℕ) (n : ℕ) (b : Bytes table) (e : reading table ≡ A
         text = printed-text (rowsOf table) can-print;
         sound-members = printed-fine (rowsOf table) can-print;
         sound-records =
-          runs (wishes (treeOf (printed-text (rowsOf table) can-print .value-first))) freshState (printed-made (rowsOf table) can-print) follows;
+            runs (wishes (treeOf (printed-text (rowsOf table) can-print .value-first))) freshState (printed-made (rowsOf table) can-print) follows;
         is-table = ap (λ (rows : List Statement). encode (entriesFor rows)) (printed-says (rowsOf table) can-print) ∙ whole-rows table n b e;
         short = read-through table n e .0;
       }

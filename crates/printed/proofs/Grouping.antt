@@ -1,18 +1,16 @@
 -- Conditions that stand by their operators are those of groups with each operator and, in it, each key once; and the other way round.
-use Prim.Native.Nat.{ℕ}
 use mathlib.Core.Path.{_≡_, refl, sym, _∙_, ap, subst}
 use mathlib.Core.Bool.{Bool, true, false}
 use mathlib.Core.List.{List, [], _∷_}
 use mathlib.Core.Logic.{_⊎_, inl, inr}
-use lib.Dec.{eqb}
 use borrow.Author.Tests.{eqb-true, eq-eqb}
 use Rattle.stored.specs.Choice.{pick, In}
-use Rattle.stored.specs.Tables.{Listed, Condition, Statement}
+use Rattle.stored.specs.Tables.{Condition}
 use Rattle.stored.specs.declared.items.Operator.{Operator}
 use Rattle.stored.specs.declared.items.Key.{Key}
 use Rattle.records.specs.Documents.{operatorAt}
 use Rattle.json.proofs.Choosing.{never}
-use Rattle.printed.specs.Grouped.{Without, Together, NoneTwice, Grouped}
+use Rattle.printed.specs.Grouped.{Without, Together, NoneTwice}
 use Rattle.printed.specs.machinery.Groups.{operatorNumber, Keyed, Group, keyedConditions, groupConditions, isOf, joined, groupsOf, NoKey, KeysOnce, NoOperator, GroupsOnce}
 use Rattle.printed.proofs.Names.{operator-back}
 
@@ -70,11 +68,10 @@ first-joined o k (g ∷ gs) = by (isOf o (g .operator))
 no-key : (k : Key) (o : Operator) (ks : List Keyed) (rest : List Condition)
     → ((x : Condition) → In x (keyedConditions o ks rest) → x .operator ≡ o → x .key ≡ k → ⊥) → NoKey k ks
 no-key k o [] rest h = tt
-no-key k o (y ∷ ks) rest h =
-    (
-      h (record { operator = o; key = y .key; values = y .values }) (inl refl) refl,
-      no-key k o ks rest (λ x i. h x (inr i)),
-    )
+no-key k o (y ∷ ks) rest h = (
+  h (record { operator = o; key = y .key; values = y .values }) (inl refl) refl,
+  no-key k o ks rest (λ x i. h x (inr i)),
+)
 
 module _ (o : Operator) (k : Keyed) where
   -- one condition more in front
@@ -87,12 +84,11 @@ module _ (o : Operator) (k : Keyed) where
       by : (b : Bool) → isOf o (g .operator) ≡ b → (p ≡ o) ⊎ NoOperator o (g ∷ gs)
           → GroupsOnce (pick b (record { operator = o; keys = k ∷ g .keys } ∷ gs) (record { operator = o; keys = k ∷ [] } ∷ g ∷ gs))
       by true e t =
-          let same = same-operator o (g .operator) e in
-          (
+          let same = same-operator o (g .operator) e in (
             rw same (h .0),
             (
               no-key (k .key) (g .operator) (g .keys) (groupConditions gs)
-              (λ x i q r. n x i (q ∙ sym same) r),
+                  (λ x i q r. n x i (q ∙ sym same) r),
               h .1,
             ),
             h .2,

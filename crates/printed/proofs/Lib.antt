@@ -12,5 +12,6 @@ pub mod DocumentsSaid
 pub mod Addresses
 pub mod EveryTable
 pub mod OnceInTrees
+pub mod DocumentsGrouped
 pub mod OtherTables
 pub mod Promises

@@ -1,7 +1,7 @@
 -- What is seen behind one more mark.
 use Prim.Native.Nat.{ℕ, zero, suc, _+_, _*_, _/_, _%_, _^_, _<_, max}
 use mathlib.Core.Path.{_≡_, refl, sym, _∙_, ap}
-use mathlib.Core.Bool.{Bool, true, false, _||_}
+use mathlib.Core.Bool.{Bool, false, _||_}
 use native.Mathlib.Nat.{pow-succ', div-one, zero-div, div-div-eq-div-mul}
 use native.Mathlib.Omega.{arith}
 use lib.Bits.{bitOr, or-step, or-shr}

@@ -1,6 +1,5 @@
 -- The names that are printed are those that are read.
-use Prim.Native.Nat.{ℕ}
-use mathlib.Core.Path.{_≡_, refl, sym, _∙_, ap}
+use mathlib.Core.Path.{_≡_, refl}
 use mathlib.Core.Bool.{true, false}
 use lib.Dec.{eqb}
 use Rattle.members.specs.Members.{topNames, rowNames, operatorNames, keyNames, versionText, operatorKind, keyKind}

@@ -1,16 +1,15 @@
 -- The text of a network says the network.
 use Prim.Native.Nat.{ℕ, zero, suc, _+_, _*_, _-_, _/_, _%_, _^_, _≤_, _<_}
-use mathlib.Core.Path.{_≡_, refl, sym, _∙_, ap}
-use mathlib.Core.Bool.{Bool, true, false, _&&_}
+use mathlib.Core.Path.{_≡_, refl, _∙_, ap}
+use mathlib.Core.Bool.{Bool, true, false}
 use mathlib.Core.List.{List, [], _∷_}
-use lib.Dec.{eqb, leb}
+use lib.Dec.{leb}
 use native.Mathlib.Omega.{arith}
-use borrow.Author.Tests.{leb-true, leb-false, le-leb, lt-leb, ne-eqb}
+use borrow.Author.Tests.{leb-true, leb-false, le-leb}
 use Rattle.json.specs.Choice.{pick}
 use Rattle.json.specs.Bytes.{isDigit}
-use Rattle.json.proofs.Choosing.{never}
 use Rattle.stored.specs.Values.{byteInRange, inRange}
-use Rattle.records.specs.Networks.{Read, Number, Longer, withDigit, afterDigit, lengthOf, numbersOf, networkOf}
+use Rattle.records.specs.Networks.{Read, Number, withDigit, lengthOf, numbersOf, networkOf}
 use Rattle.records.specs.Networks.Number.{blank, value}
 use Rattle.records.specs.Networks.Longer.{goes}
 use Rattle.printed.specs.machinery.NetworkTexts.{decimal, networkText}
@@ -44,9 +43,9 @@ decimal-read most go x n high small r = by (leb 100 n) refl (leb 10 n) refl
         let whole : (n / 100 * 10 + n / 10 % 10) * 10 + n % 10 ≡ n = omega arith in
         x .one-digit (n / 100) (omega arith) _ blank (n / 100) (first-digit most (n / 100) (omega arith))
         ∙ x .one-digit (n / 10 % 10) (omega arith) _ (value (n / 100)) (n / 100 * 10 + n / 10 % 10)
-          (next-digit most (n / 10 % 10) (n / 100) (omega arith) (omega arith))
+        (next-digit most (n / 10 % 10) (n / 100) (omega arith) (omega arith))
         ∙ x .one-digit (n % 10) (omega arith) r (value (n / 100 * 10 + n / 10 % 10)) ((n / 100 * 10 + n / 10 % 10) * 10 + n % 10)
-          (next-digit most (n % 10) (n / 100 * 10 + n / 10 % 10) (omega arith) (omega arith))
+        (next-digit most (n % 10) (n / 100 * 10 + n / 10 % 10) (omega arith) (omega arith))
         ∙ ap (λ (m : ℕ). go r (value m)) whole
     by false e true f =
         let l = leb-true 10 n f in
@@ -76,11 +75,11 @@ network-read a n small short =
     decimal-read 255 (λ bs n. numbersOf bs 3 0 n) (numbers-decimals 3 0) (a / 0x1000000) (omega arith) (omega arith) _
     ∙ decimal-read 255 (λ bs n. numbersOf bs 2 (0 * 256 + a / 0x1000000) n) (numbers-decimals 2 (0 * 256 + a / 0x1000000)) (a / 0x10000 % 0x100) (omega arith) (omega arith) _
     ∙ decimal-read 255 (λ bs n. numbersOf bs 1 ((0 * 256 + a / 0x1000000) * 256 + a / 0x10000 % 0x100) n)
-      (numbers-decimals 1 ((0 * 256 + a / 0x1000000) * 256 + a / 0x10000 % 0x100)) (a / 0x100 % 0x100) (omega arith) (omega arith) _
+    (numbers-decimals 1 ((0 * 256 + a / 0x1000000) * 256 + a / 0x10000 % 0x100)) (a / 0x100 % 0x100) (omega arith) (omega arith) _
     ∙ decimal-read 255 (λ bs n. numbersOf bs 0 (((0 * 256 + a / 0x1000000) * 256 + a / 0x10000 % 0x100) * 256 + a / 0x100 % 0x100) n)
-      (numbers-decimals 0 (((0 * 256 + a / 0x1000000) * 256 + a / 0x10000 % 0x100) * 256 + a / 0x100 % 0x100)) (a % 0x100) (omega arith) (omega arith) _
+    (numbers-decimals 0 (((0 * 256 + a / 0x1000000) * 256 + a / 0x10000 % 0x100) * 256 + a / 0x100 % 0x100)) (a % 0x100) (omega arith) (omega arith) _
     ∙ decimal-read 32 (λ bs n. lengthOf ((((0 * 256 + a / 0x1000000) * 256 + a / 0x10000 % 0x100) * 256 + a / 0x100 % 0x100) * 256 + a % 0x100) bs n)
-      (length-decimals ((((0 * 256 + a / 0x1000000) * 256 + a / 0x10000 % 0x100) * 256 + a / 0x100 % 0x100) * 256 + a % 0x100)) n short (omega arith) []
+    (length-decimals ((((0 * 256 + a / 0x1000000) * 256 + a / 0x10000 % 0x100) * 256 + a / 0x100 % 0x100) * 256 + a % 0x100)) n short (omega arith) []
     ∙ rw (whole, all)
 
 -- its bytes lie in 21 to 7E hex

@@ -1,39 +1,36 @@
--- Of a sound document, the conditions stand by their operators: no operator and, under it, no key is met twice.
-use Prim.Native.Nat.{ℕ, zero, suc, _+_, _/_, _≤_, _<_}
-use mathlib.Core.Path.{_≡_, refl, sym, _∙_, ap, subst}
+-- In a sound Condition no operator and, under it, no key is met twice: it has groups with each once.
+use Prim.Native.Nat.{ℕ, zero, suc, _+_, _<_}
+use mathlib.Core.Path.{_≡_, refl, sym, _∙_, ap}
 use mathlib.Core.Bool.{Bool, true, false, _&&_, _||_}
 use mathlib.Core.List.{List, [], _∷_, map}
 use mathlib.Core.Logic.{_⊎_, inl, inr}
-use lib.Dec.{eqb, leb, ltb}
+use lib.Dec.{eqb, ltb}
 use lib.ListN.{length}
 use native.Mathlib.Omega.{arith}
-use borrow.Author.Tests.{eq-eqb, eqb-true, eqb-false, ltb-true, ltb-false, leb-true, leb-false}
+use borrow.Author.Tests.{eq-eqb, eqb-true, ltb-true, ltb-false}
 use Rattle.json.specs.Choice.{pick, sameBytes}
-use Rattle.json.specs.Trees.{Shape, Tree}
-use Rattle.json.specs.Trees.Shape.{one, several, named}
-use Rattle.json.specs.Trees.Tree.{text, other, list, object, end-list, element, end-object, member}
+use Rattle.json.specs.Trees.{Tree}
+use Rattle.json.specs.Trees.Shape.{one, named}
+use Rattle.json.specs.Trees.Tree.{text, other, list, object, end-object, member}
 use Rattle.json.proofs.Choosing.{never, both-left, both-right}
 use Rattle.members.specs.Members as Mb
-use Rattle.members.specs.Members.{Verdict, following, placeFrom, operatorNames, keyNames, small, topKind, rowKind, rowSlot, operatorKind, keyKind, isSeen, add, isBad}
+use Rattle.members.specs.Members.{Verdict, following, placeFrom, operatorNames, keyNames, small, operatorKind, keyKind, isSeen, add, isBad}
 use Rattle.members.specs.Members.Verdict.{fine, refused}
-use Rattle.stored.specs.Choice.{In}
 use Rattle.stored.specs.Operators.{rowOf}
-use Rattle.stored.specs.Tables.{Condition, Statement}
+use Rattle.stored.specs.Tables.{Condition}
 use Rattle.stored.specs.declared.items.Operator.{Operator}
 use Rattle.stored.specs.declared.items.Key.{Key}
 use Rattle.stored.specs.declared.items.Sort.{Sort}
-use Rattle.records.specs.Documents.{Found, held, stated, marked, membersOf, operatorAt, keyAt, listed, strings, conditionsUnder, conditionsOf, statementOf, eachStatement, statementsUnder, statementsOf}
-use Rattle.printed.specs.Grouped.{Grouped}
+use Rattle.records.specs.Documents.{membersOf, operatorAt, keyAt, listed, strings, conditionsUnder, conditionsOf}
 use Rattle.printed.specs.machinery.Groups.{operatorNumber, keyNumber, Keyed, Group, keyedConditions, groupConditions, NoKey, KeysOnce, NoOperator, GroupsOnce}
-use Rattle.printed.proofs.Marks.{none-seen, seen-more}
-use Rattle.printed.proofs.Grouping.{groups-together, groups-twice}
+use Rattle.printed.proofs.Marks.{seen-more}
 
 -- a fault is not none
-both-fine : (c m : Verdict) → following c m ≡ fine → (c ≡ fine) × (m ≡ fine)
+pub both-fine : (c m : Verdict) → following c m ≡ fine → (c ≡ fine) × (m ≡ fine)
 both-fine fine m e = (refl, e)
 both-fine (refused k n) m e = never (cc)
 
-member-fine : (bad : Bool) (n : ℕ) (c m : Verdict) → pick bad (refused 21 n) (following c m) ≡ fine → (bad ≡ false) × (c ≡ fine) × (m ≡ fine)
+pub member-fine : (bad : Bool) (n : ℕ) (c m : Verdict) → pick bad (refused 21 n) (following c m) ≡ fine → (bad ≡ false) × (c ≡ fine) × (m ≡ fine)
 member-fine true n c m e = never (cc)
 member-fine false n c m e = (refl, both-fine c m e .0, both-fine c m e .1)
 
@@ -94,11 +91,11 @@ key-known x h = by (keyKind x) (place-bound 1 keyNames (map small x)) h
     by (suc k) (inr e) h = absurd (omega arith)
 
 -- the groups of a Condition
-abbrev treeKeys : Sort → Tree named → List Keyed
+abbrev pub treeKeys : Sort → Tree named → List Keyed
 treeKeys s (end-object n) = []
 treeKeys s (member n x v ms) = record { key = keyAt (keyKind x); values = listed s (strings v) } ∷ treeKeys s ms
 
-abbrev treeGroups : Tree named → List Group
+abbrev pub treeGroups : Tree named → List Group
 treeGroups (end-object n) = []
 treeGroups (member n x v ms) =
     record { operator = operatorAt (operatorKind x); keys = treeKeys (rowOf (operatorAt (operatorKind x)) .sort) (membersOf v) } ∷ treeGroups ms
@@ -108,7 +105,7 @@ keys-same o (end-object n) cs = refl
 keys-same o (member n x v ms) cs =
     ap (λ (xs : List Condition). record { operator = o; key = keyAt (keyKind x); values = listed (rowOf o .sort) (strings v) } ∷ xs) (keys-same o ms cs)
 
-groups-same : (ms : Tree named) → conditionsOf ms ≡ groupConditions (treeGroups ms)
+pub groups-same : (ms : Tree named) → conditionsOf ms ≡ groupConditions (treeGroups ms)
 groups-same (end-object n) = refl
 groups-same (member n x v ms) =
     keys-same (operatorAt (operatorKind x)) (membersOf v) (conditionsOf ms)
@@ -140,14 +137,12 @@ keys-once s seen (member n x v ms) e =
     let f = member-fine (isBad (keyKind x) (keyKind x) seen) n (Mb.strings v) (Mb.keys (add seen (keyKind x)) ms) e in
     let g = fresh (keyKind x) seen (f .0) in
     let b = key-known x (g .0) in
-    let more = keys-once s (add seen (keyKind x)) ms (f .2) in
-    (
+    let more = keys-once s (add seen (keyKind x)) ms (f .2) in (
       (more .1 (keyAt (keyKind x)) (now-seen seen (keyKind x) (keyNumber (keyAt (keyKind x))) b), more .0),
-      λ k h.
-        (
-          λ q. apart seen (keyNumber k) (keyKind x) h (g .1) (sym b ∙ ap keyNumber q),
-          more .1 k (still-seen seen (keyKind x) (keyNumber k) h),
-        ),
+      λ k h. (
+        λ q. apart seen (keyNumber k) (keyKind x) h (g .1) (sym b ∙ ap keyNumber q),
+        more .1 k (still-seen seen (keyKind x) (keyNumber k) h),
+      ),
     )
 
 operator-once : (s : Sort) (v : Tree one) → Mb.operator v ≡ fine → KeysOnce (treeKeys s (membersOf v))
@@ -156,107 +151,21 @@ operator-once s (other n) e = never (cc)
 operator-once s (list n es) e = never (cc)
 operator-once s (object n ms) e = keys-once s 0 ms e .0
 
-groups-once : (seen : ℕ) (ms : Tree named) → Mb.operators seen ms ≡ fine
+pub groups-once : (seen : ℕ) (ms : Tree named) → Mb.operators seen ms ≡ fine
     → GroupsOnce (treeGroups ms) × ((o : Operator) → isSeen seen (operatorNumber o) ≡ true → NoOperator o (treeGroups ms))
 groups-once seen (end-object n) e = (tt, λ o h. tt)
 groups-once seen (member n x v ms) e =
     let f = member-fine (isBad (operatorKind x) (operatorKind x) seen) n (Mb.operator v) (Mb.operators (add seen (operatorKind x)) ms) e in
     let g = fresh (operatorKind x) seen (f .0) in
     let b = operator-known x (g .0) in
-    let more = groups-once (add seen (operatorKind x)) ms (f .2) in
-    (
+    let more = groups-once (add seen (operatorKind x)) ms (f .2) in (
       (
         more .1 (operatorAt (operatorKind x)) (now-seen seen (operatorKind x) (operatorNumber (operatorAt (operatorKind x))) b),
         operator-once (rowOf (operatorAt (operatorKind x)) .sort) v (f .1),
         more .0,
       ),
-      λ o h.
-        (
-          λ q. apart seen (operatorNumber o) (operatorKind x) h (g .1) (sym b ∙ ap operatorNumber q),
-          more .1 o (still-seen seen (operatorKind x) (operatorNumber o) h),
-        ),
+      λ o h. (
+        λ q. apart seen (operatorNumber o) (operatorKind x) h (g .1) (sym b ∙ ap operatorNumber q),
+        more .1 o (still-seen seen (operatorKind x) (operatorNumber o) h),
+      ),
     )
-
--- the Condition of a sound statement
-condition-value : (k : ℕ) (v : Tree one) → rowSlot k ≡ 6 → Mb.rowValue k v ≡ fine → Mb.condition v ≡ fine
-condition-value k v s = by (leb k 2) refl (leb k 4) refl (leb k 8) refl s
-  where
-    by : (a : Bool) → leb k 2 ≡ a → (b : Bool) → leb k 4 ≡ b → (c : Bool) → leb k 8 ≡ c
-        → pick a k (pick c ((k + 3) / 2) 6) ≡ 6
-        → pick a (Mb.anyText v) (pick b (Mb.principal v) (pick c (Mb.strings v) (Mb.condition v))) ≡ fine → Mb.condition v ≡ fine
-    by true e b f c g s h = let l = leb-true k 2 e in absurd (omega arith)
-    by false e b f true g s h = let l = leb-true k 8 g in absurd (omega arith)
-    by false e true f false g s h =
-        let l = leb-true k 4 f in
-        let m = leb-false k 8 g in
-        absurd (omega arith)
-    by false e false f false g s h = h
-
-condition-members : (v : Tree one) → Mb.condition v ≡ fine → Mb.operators 0 (membersOf v) ≡ fine
-condition-members (text n bs) e = never (cc)
-condition-members (other n) e = never (cc)
-condition-members (list n es) e = never (cc)
-condition-members (object n ms) e = e
-
-row-conditions : (seen : ℕ) (ms : Tree named) → Mb.row seen ms ≡ fine → Mb.operators 0 (membersOf (held (marked 6 ms))) ≡ fine
-row-conditions seen (end-object n) e = refl
-row-conditions seen (member n x v ms) e =
-    let f = member-fine (isBad (rowKind x) (rowSlot (rowKind x)) seen) n (Mb.rowValue (rowKind x) v) (Mb.row (add seen (rowSlot (rowKind x))) ms) e in
-    by (eqb (rowSlot (rowKind x)) 6) refl (f .1) (row-conditions (add seen (rowSlot (rowKind x))) ms (f .2))
-  where
-    by : (b : Bool) → eqb (rowSlot (rowKind x)) 6 ≡ b → Mb.rowValue (rowKind x) v ≡ fine → Mb.operators 0 (membersOf (held (marked 6 ms))) ≡ fine
-        → Mb.operators 0 (membersOf (held (pick b (Found.found (rowKind x) v) (marked 6 ms)))) ≡ fine
-    by true h c more = condition-members v (condition-value (rowKind x) v (eqb-true (rowSlot (rowKind x)) 6 h) c)
-    by false h c more = more
-
-row-grouped : (ms : Tree named) → Mb.row 0 ms ≡ fine → Grouped (statementOf ms)
-row-grouped ms e =
-    let c = membersOf (held (marked 6 ms)) in
-    let o = groups-once 0 c (row-conditions 0 ms e) .0 in
-    record {
-      together = rw (groups-same c) (groups-together (treeGroups c) o);
-      none-twice = rw (groups-same c) (groups-twice (treeGroups c) o);
-    }
-
--- every statement of a sound document
-abbrev AllGrouped : List Statement → Type 0
-AllGrouped rows = (s : Statement) → In s rows → Grouped s
-
-one-more : (s : Statement) (rows : List Statement) → Grouped s → AllGrouped rows → AllGrouped (s ∷ rows)
-one-more s rows g f x (inl e) = rw e g
-one-more s rows g f x (inr i) = f x i
-
-rows-grouped : (es : Tree several) → Mb.eachRow es ≡ fine → AllGrouped (eachStatement es)
-rows-grouped (end-list n) e = λ s i. absurd i
-rows-grouped (element (text n bs) es) e = never (cc)
-rows-grouped (element (other n) es) e = never (cc)
-rows-grouped (element (list n xs) es) e = never (cc)
-rows-grouped (element (object n ms) es) e =
-    let f = both-fine (Mb.row 0 ms) (Mb.eachRow es) e in
-    one-more (statementOf ms) (eachStatement es) (row-grouped ms (f .0)) (rows-grouped es (f .1))
-
-under-grouped : (v : Tree one) → Mb.rows v ≡ fine → AllGrouped (statementsUnder v)
-under-grouped (text n bs) e = never (cc)
-under-grouped (other n) e = never (cc)
-under-grouped (list n es) e = rows-grouped es e
-under-grouped (object n ms) e = one-more (statementOf ms) [] (row-grouped ms e) (λ s i. absurd i)
-
-top-value : (k : ℕ) (v : Tree one) → k ≡ 2 → Mb.topValue k v ≡ fine → Mb.rows v ≡ fine
-top-value k v e h = rw e at h
-
-top-grouped : (seen : ℕ) (ms : Tree named) → Mb.top seen ms ≡ fine → AllGrouped (statementsUnder (held (stated ms)))
-top-grouped seen (end-object n) e = λ s i. absurd i
-top-grouped seen (member n x v ms) e =
-    let f = member-fine (isBad (topKind x) (topKind x) seen) n (Mb.topValue (topKind x) v) (Mb.top (add seen (topKind x)) ms) e in
-    by (eqb (topKind x) 2) refl (f .1) (top-grouped (add seen (topKind x)) ms (f .2))
-  where
-    by : (b : Bool) → eqb (topKind x) 2 ≡ b → Mb.topValue (topKind x) v ≡ fine → AllGrouped (statementsUnder (held (stated ms)))
-        → AllGrouped (statementsUnder (held (pick b (Found.found (topKind x) v) (stated ms))))
-    by true h c more = under-grouped v (top-value (topKind x) v (eqb-true (topKind x) 2 h) c)
-    by false h c more = more
-
-pub document-grouped : (v : Tree one) → Mb.document v ≡ fine → (s : Statement) → In s (statementsOf v) → Grouped s
-document-grouped (text n bs) e = never (cc)
-document-grouped (other n) e = never (cc)
-document-grouped (list n es) e = never (cc)
-document-grouped (object n ms) e = top-grouped 0 ms e

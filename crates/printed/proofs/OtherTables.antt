@@ -1,20 +1,19 @@
 -- The table that a text makes reads as the text's statements, so that its conditions stand by their operators.
 use Prim.Native.Nat.{ℕ, _+_, _≤_}
 use mathlib.Core.Path.{_≡_, refl, sym, _∙_, ap, subst}
-use mathlib.Core.List.{List, [], _∷_, _++_}
-use lib.ListN.{length, take, length-append}
+use mathlib.Core.List.{List, [], _∷_}
+use lib.ListN.{length, length-append}
 use native.Mathlib.Omega.{arith}
 use Rattle.json.specs.Trees.{Tree, treeOf}
 use Rattle.json.specs.Trees.Shape.{one}
 use Rattle.json.proofs.Promises.{one-tree}
 use Rattle.json.proofs.Choosing.{never}
-use Rattle.members.specs.Members.{Verdict}
-use Rattle.members.specs.Members.Verdict.{fine, refused}
+use Rattle.members.specs.Members.Verdict.{fine}
 use Rattle.stored.specs.Choice.{In}
 use Rattle.stored.specs.Machine.{freshState}
 use Rattle.stored.specs.Reading.{reading}
 use Rattle.stored.specs.Writing.{recordOf}
-use Rattle.stored.specs.Entries.{Entry, itemOf, bytesOf, encode}
+use Rattle.stored.specs.Entries.{itemOf, bytesOf, encode}
 use Rattle.stored.specs.Form.{entriesFor}
 use Rattle.stored.specs.Tables.{Statement, rowsOf}
 use Rattle.stored.specs.machinery.Following.{admit}
@@ -22,17 +21,17 @@ use Rattle.stored.specs.declared.machine.State.{State}
 use Rattle.stored.specs.declared.machine.Turn.{Turn}
 use Rattle.stored.specs.declared.machine.Turn.the-variants as T
 use Rattle.stored.specs.declared.reader.ReadAnswer.the-variants as A
-use Rattle.stored.proofs.Promises.{written-so-far, three-elements}
+use Rattle.stored.proofs.Promises.{written-so-far}
 use Rattle.records.specs.Documents.{statementsOf}
 use Rattle.records.specs.Wishes.{Wish, wishes, entries}
 use Rattle.records.specs.Wishes.Wish.{made, strange, empty, unread}
-use Rattle.records.specs.Records.{afterWish, running, sizeOf, recordsOf}
+use Rattle.records.specs.Records.{afterWish, running, sizeOf}
 use Rattle.records.proofs.Wished.{wished}
 use Rattle.records.proofs.Means.{json-means}
 use Rattle.printed.specs.Grouped.{Grouped}
 use Rattle.printed.specs.Makes.{Makes}
 use Rattle.printed.proofs.EveryTable.{same-entries}
-use Rattle.printed.proofs.OnceInTrees.{document-grouped}
+use Rattle.printed.proofs.DocumentsGrouped.{document-grouped}
 
 -- the records of wishes that are all taken have as many bytes as is said
 sizes : (ws : List Wish) (s : State) → running ws s ≡ fine → sizeOf ws ≡ length (encode (entries ws))

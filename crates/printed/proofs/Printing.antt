@@ -1,20 +1,19 @@
 -- A printed value is one of the grammar, and its tree is the value with its places.
-use Prim.Native.Nat.{ℕ, suc, _≤_, _<_}
-use mathlib.Core.Path.{_≡_, refl, sym, _∙_, ap}
+use Prim.Native.Nat.{ℕ, suc}
+use mathlib.Core.Path.{_≡_, refl, _∙_, ap}
 use mathlib.Core.Bool.{Bool, true, false, not, _&&_, _||_}
 use mathlib.Core.List.{List, [], _∷_}
 use lib.Dec.{eqb, leb}
-use lib.ListN.{length}
 use native.Mathlib.Omega.{arith}
-use borrow.Author.Tests.{eqb-true, leb-true, le-leb}
-use Rattle.json.specs.Bytes.{within, isSimple, isPlain}
+use borrow.Author.Tests.{leb-true, le-leb}
+use Rattle.json.specs.Bytes.{isSimple, isPlain}
 use Rattle.json.specs.Choice.{pick}
-use Rattle.json.specs.Grammar.{Characters, Part, Reads, Blanks, Text}
-use Rattle.json.specs.Trees.{Shape, Tree, bytesOf, treeOf}
-use Rattle.json.specs.Trees.Shape.{one, several, named}
+use Rattle.json.specs.Grammar.{Characters, Reads, Blanks, Text}
+use Rattle.json.specs.Trees.{Shape, bytesOf, treeOf}
+use Rattle.json.specs.Trees.Shape.{one}
 use Rattle.json.proofs.Choosing.{never, both-left, both-right}
 use Rattle.stored.specs.Values.{byteInRange, inRange}
-use Rattle.printed.specs.machinery.Values.{Value, needsEscape, letter, letters, comma, print, partOf, asTree, Sound, located}
+use Rattle.printed.specs.machinery.Values.{Value, needsEscape, letter, letters, print, partOf, asTree, Sound, located}
 use Rattle.printed.specs.machinery.Values.Value.{text, list, object, end-list, element, end-object, member}
 
 -- a byte that needs an escape has one, and any other is plain

@@ -1,14 +1,13 @@
 -- The printed statements: they have no fault, they say the statements, and all that they wish for are entries.
-use Prim.Native.Nat.{ℕ, suc, _≤_, _<_}
+use Prim.Native.Nat.{ℕ, suc, _<_}
 use mathlib.Core.Path.{_≡_, refl, sym, _∙_, ap, subst}
-use mathlib.Core.Bool.{Bool, true, false}
+use mathlib.Core.Bool.{true, false}
 use mathlib.Core.List.{List, [], _∷_}
-use mathlib.Core.Logic.{_⊎_, inl, inr}
-use lib.Dec.{eqb}
+use mathlib.Core.Logic.{inl, inr}
 use lib.ListN.{length}
 use native.Mathlib.Omega.{arith}
-use Rattle.json.specs.Trees.{Shape, Tree}
-use Rattle.json.specs.Trees.Shape.{one, several, named}
+use Rattle.json.specs.Trees.{Tree}
+use Rattle.json.specs.Trees.Shape.{one, named}
 use Rattle.json.proofs.Choosing.{never}
 use Rattle.members.specs.Members as Mb
 use Rattle.members.specs.Members.{Verdict, following}
@@ -16,7 +15,7 @@ use Rattle.members.specs.Members.Verdict.{fine}
 use Rattle.stored.specs.Choice.{In}
 use Rattle.stored.specs.Items.{columnPlace}
 use Rattle.stored.specs.Form.{placesOf}
-use Rattle.stored.specs.Tables.{Listed, Element, Condition, Statement}
+use Rattle.stored.specs.Tables.{Listed, Element, Statement}
 use Rattle.stored.specs.declared.items.Effect.{Effect}
 use Rattle.stored.specs.declared.items.Column.{Column}
 use Rattle.stored.specs.declared.items.Sort.the-variants as S
@@ -24,12 +23,12 @@ use Rattle.records.specs.Documents.{holder, statementOf}
 use Rattle.records.specs.Wishes.{Wish, statementWishes}
 use Rattle.printed.specs.machinery.Values.{Value, Sound, located, letters, print}
 use Rattle.printed.specs.machinery.Groups.{Group, groupConditions, groupsOf, GroupsOnce}
-use Rattle.printed.specs.machinery.Plans.{effectName, conditionName, awsName, columnName, effectText, listedValues, columnValue, elementMembers, groupMembers, statementMembers, statementValues}
+use Rattle.printed.specs.machinery.Plans.{effectName, conditionName, awsName, columnName, effectText, listedValues, groupMembers, statementMembers}
 use Rattle.printed.proofs.Names.{column-shown, effect-shown, effect-name-shown, condition-name-shown, aws-shown}
 use Rattle.printed.proofs.Grouping.{groups-back}
 use Rattle.printed.proofs.ValuesSaid.{Holds, AllMade, list-sound, list-fine, list-said, list-made}
 use Rattle.printed.proofs.ConditionsSaid.{GroupsHold, groups-fine, groups-sound, groups-said, groups-made}
-use Rattle.printed.proofs.ColumnForms.{Principals, Actions, Resources, principals, actions, resources, Parts, rowTree, row-verdict, row-said, row-wished, principal-verdict, principal-holder, effect-said, effect-wished}
+use Rattle.printed.proofs.ColumnForms.{principals, actions, resources, Parts, rowTree, row-verdict, row-said, row-wished, principal-verdict, principal-holder, effect-said, effect-wished}
 
 -- one value or more, each a text that a list may hold
 abbrev pub Filled : List Listed → Type 0
@@ -179,14 +178,22 @@ module _ (e : Effect) (c0 c1 c2 : Column) (l0 l1 l2 : List Listed) (gs : List Gr
 
     tree-sound : Filled l0 → Filled l1 → Filled l2 → GroupsHold gs → Sound 3 (statementMembers e elements gs)
     tree-sound h0 h1 h2 k =
-        rw (p, q, s)
-        (
+        rw (p, q, s) (
           effect-name-shown,
           effect-shown e,
-          (column-shown c0, (omega arith, (aws-shown, (omega arith, list-sound S.Text l0 5 (h0 .0)), tt)),
-          (column-shown c1, (omega arith, list-sound S.Text l1 4 (h1 .0)),
-          (column-shown c2, (omega arith, list-sound S.Text l2 4 (h2 .0)),
-          (condition-name-shown, (omega arith, groups-sound gs 4 (omega arith) k), tt)))),
+          (
+            column-shown c0,
+            (omega arith, (aws-shown, (omega arith, list-sound S.Text l0 5 (h0 .0)), tt)),
+            (
+              column-shown c1,
+              (omega arith, list-sound S.Text l1 4 (h1 .0)),
+              (
+                column-shown c2,
+                (omega arith, list-sound S.Text l2 4 (h2 .0)),
+                (condition-name-shown, (omega arith, groups-sound gs 4 (omega arith) k), tt),
+              ),
+            ),
+          ),
         )
 
 -- a statement that can be printed

@@ -1,16 +1,14 @@
 -- The printed list of values: it has no fault, it says the values, and each of them is wished for.
 use Prim.Native.Nat.{ℕ, suc, _^_, _≤_, _<_}
-use mathlib.Core.Path.{_≡_, refl, sym, _∙_, ap}
-use mathlib.Core.Bool.{Bool, true, false, _&&_}
+use mathlib.Core.Path.{_≡_, refl, ap}
+use mathlib.Core.Bool.{Bool, true, _&&_}
 use mathlib.Core.List.{List, [], _∷_}
-use mathlib.Core.Logic.{_⊎_, inl, inr}
-use lib.Dec.{eqb, leb}
+use mathlib.Core.Logic.{inl, inr}
+use lib.Dec.{leb}
 use lib.ListN.{length}
 use native.Mathlib.Omega.{arith}
 use borrow.Author.Tests.{leb-true}
-use Rattle.json.specs.Trees.{Shape, Tree}
-use Rattle.json.specs.Trees.Shape.{one, several, named}
-use Rattle.json.proofs.Choosing.{never, both-left}
+use Rattle.json.proofs.Choosing.{both-left}
 use Rattle.members.specs.Members as Mb
 use Rattle.members.specs.Members.Verdict.{fine}
 use Rattle.stored.specs.Choice.{In}
@@ -18,10 +16,8 @@ use Rattle.stored.specs.Form.{MayHold}
 use Rattle.stored.specs.Tables.{Listed}
 use Rattle.stored.specs.declared.items.Sort.{Sort}
 use Rattle.stored.specs.declared.items.Sort.the-variants as S
-use Rattle.records.specs.Networks.{networkOf}
-use Rattle.records.specs.Networks as N
 use Rattle.records.specs.Documents.{range, listedBy, listed, each}
-use Rattle.records.specs.Wishes.{Wish, networkWish, stringWish, eachWish, listWishes}
+use Rattle.records.specs.Wishes.{Wish, stringWish, eachWish, listWishes}
 use Rattle.records.specs.Wishes.Wish.{made, strange, empty, unread}
 use Rattle.printed.specs.machinery.Values.{Value, Sound, located, letters, print}
 use Rattle.printed.specs.machinery.NetworkTexts.{networkText}

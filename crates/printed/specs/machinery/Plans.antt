@@ -1,6 +1,6 @@
 -- Statements as a JSON value: lists always as lists, principals under AWS, conditions by operator.
 use Prim.Native.Nat.{ℕ, _-_}
-use mathlib.Core.Bool.{Bool, true, false}
+use mathlib.Core.Bool.{false}
 use mathlib.Core.List.{List, [], _∷_}
 use lib.Dec.{eqb}
 use Rattle.json.specs.Choice.{pick}
@@ -8,7 +8,7 @@ use Rattle.json.specs.Trees.Shape.{one, several, named}
 use Rattle.members.specs.Members.{topNames, rowNames, operatorNames, keyNames, versionText}
 use Rattle.records.specs.Documents.{allowText, denyText}
 use Rattle.stored.specs.Items.{columnPlace}
-use Rattle.stored.specs.Tables.{Listed, Element, Condition, Statement}
+use Rattle.stored.specs.Tables.{Listed, Element, Statement}
 use Rattle.stored.specs.declared.items.Effect.{Effect}
 use Rattle.stored.specs.declared.items.Effect.the-variants as E
 use Rattle.stored.specs.declared.items.Column.{Column}

@@ -6,7 +6,6 @@ use mathlib.Core.List.{List, [], _∷_}
 use lib.Dec.{eqb}
 use lib.ListN.{length}
 use Rattle.json.specs.Choice.{pick}
-use Rattle.json.specs.Bytes.{isSimple}
 use Rattle.json.specs.Grammar.{Part}
 use Rattle.json.specs.Trees.{Shape, Tree, Made}
 use Rattle.json.specs.Trees.Shape.{one, several, named}

@@ -64,7 +64,7 @@ returns c =
     let next = c .before .before .before .next .given .0 .0 in
     let on = sym (c .before .before .before .before .before .step .ensures) ∙ c .before .before .before .next .given .1 in (
       l .inv .1 ∙ taken text (l .at) (l .state) h next on
-      ∙ ap (λ (e : Event). mark e (length text - l .at) (drop (l .at + 1) text) (tokensFrom (drop (l .at + 1) text) (next .phase) (next .stack))) (sym (c .before .before .before .before .before .before .event-of .ensures)),
+          ∙ ap (λ (e : Event). mark e (length text - l .at) (drop (l .at + 1) text) (tokensFrom (drop (l .at + 1) text) (next .phase) (next .stack))) (sym (c .before .before .before .before .before .before .event-of .ensures)),
       (l .inv .0, omega arith, omega arith),
     )
 
@@ -78,7 +78,7 @@ returns-2 c =
     let h = c .before .before .before .before .before .loop-test .taken in
     let off = sym (c .before .before .step .ensures) ∙ c .enum-told .given .1 in (
       l .inv .1 ∙ broken text (l .at) (l .state) h P.Value 1 off
-      ∙ ap (λ (e : Event). mark e (length text - l .at) (drop (l .at + 1) text) (tokensFrom (drop (length text) text) P.Value 1)) (sym (c .before .before .before .event-of .ensures)),
+          ∙ ap (λ (e : Event). mark e (length text - l .at) (drop (l .at + 1) text) (tokensFrom (drop (length text) text) P.Value 1)) (sym (c .before .before .before .event-of .ensures)),
       (l .inv .0, h, omega arith),
     )
 
