@@ -4,10 +4,11 @@ use crate::events::event_of;
 use crate::machine::Phase;
 use crate::machine::State;
 use crate::machine::Turn;
+use crate::machine::start;
 use crate::machine::step;
 ghost use mathlib.Core.Path.{_≡_};
 ghost use lib.ListN.{length};
-ghost use Rattle.json.specs.machinery.Marks.{isNothing, startMark, tokensAt, metTokens, Ahead};
+ghost use Rattle.json.specs.machinery.Marks.{isNothing, markAt, startMark, tokensAt, metTokens, Ahead};
 
 // A place in a text, with the machine's state there.
 pub struct Mark {
@@ -20,6 +21,14 @@ pub enum Met {
     // What begins or ends, its place, and where to go on: behind its first byte.
     Token(Event, usize, Mark),
     None,
+}
+
+fn mark_at(at: usize, state: State) -> Mark
+    ensures { λ r. ⌜ r ≡ markAt at state ⌝ }
+{
+    let phase = state.phase;
+    let stack = state.stack;
+    Mark { at, phase, stack }
 }
 
 // The beginning of a text.
@@ -67,29 +76,11 @@ pub fn next_token(text: &[u8], from: Mark) -> Met
                     state = next;
                     at += 1;
                 } else {
-                    let phase = next.phase;
-                    let stack = next.stack;
-                    return Met::Token(
-                        event,
-                        at,
-                        Mark {
-                            at: at + 1,
-                            phase,
-                            stack,
-                        },
-                    );
+                    return Met::Token(event, at, mark_at(at + 1, next));
                 }
             }
             Turn::Fails => {
-                return Met::Token(
-                    event,
-                    at,
-                    Mark {
-                        at: text.len(),
-                        phase: Phase::Value,
-                        stack: 1,
-                    },
-                );
+                return Met::Token(event, at, mark_at(text.len(), start()));
             }
         }
     }

@@ -61,7 +61,8 @@ spot x v r = suc (length (letters x (0x3A ∷ print false v r)))
 abbrev spot-list : List Listed → List ℕ → ℕ
 spot-list l r = suc (length (print false (listedValues l) r))
 
--- a printed statement, by its parts
+-- a printed statement, by its parts: m0 to m3 are its members from the principal, the action, the resource and the Condition on, r0 to r3 the
+-- text from there on, r4 that of its closing brace on; v0 to v3 are the trees of what they hold
 module _ (e : Effect) (c0 c1 c2 : Column) (l0 l1 l2 : List Listed) (gs : List Group) (r : List ℕ) where
   abbrev elements : List Element
   elements = record { name = c0; values = l0 } ∷ record { name = c1; values = l1 } ∷ record { name = c2; values = l2 } ∷ []

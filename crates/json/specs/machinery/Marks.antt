@@ -3,10 +3,11 @@ use Prim.Native.Nat.{ℕ, _+_, _-_, _≤_, _<_}
 use mathlib.Core.Bool.{Bool, true, false}
 use mathlib.Core.List.{List, []}
 use lib.ListN.{length, drop}
+use Rattle.json.specs.machinery.Machine.{startState}
 use Rattle.json.specs.machinery.Tokens.{Token, mark, tokensFrom}
 use Rattle.json.specs.declared.events.Event.{Event}
 use Rattle.json.specs.declared.events.Event.the-variants as E
-use Rattle.json.specs.declared.machine.Phase.the-variants as P
+use Rattle.json.specs.declared.machine.State.{State}
 use Rattle.json.specs.declared.tokens.Mark.{Mark}
 use Rattle.json.specs.declared.tokens.Met.{Met}
 use Rattle.json.specs.declared.tokens.Met.the-variants as M
@@ -21,8 +22,11 @@ isNothing E.CloseList = false
 isNothing E.OpenObject = false
 isNothing E.CloseObject = false
 
+abbrev pub markAt : ℕ → State → Mark
+markAt at s = record { at = at; phase = s .phase; stack = s .stack }
+
 abbrev pub startMark : Mark
-startMark = record { at = 0; phase = P.Value; stack = 1 }
+startMark = markAt 0 startState
 
 abbrev pub tokensAt : List ℕ → Mark → List Token
 tokensAt t m = tokensFrom (drop (m .at) t) (m .phase) (m .stack)

@@ -1,11 +1,10 @@
 -- The invariant: the tokens from the place at hand are those from the place asked for; no token was passed over.
-use Prim.Native.Nat.{_+_, _-_, _≤_}
+use Prim.Native.Nat.{_-_, _≤_}
 use mathlib.Core.Path.{_≡_, sym, _∙_, ap}
 use native.Mathlib.Omega.{arith}
 use lib.ListN.{length, drop}
-use Rattle.json.specs.machinery.Tokens.{mark, tokensFrom}
+use Rattle.json.specs.machinery.Tokens.{tokensFrom}
 use Rattle.json.specs.machinery.Marks.{isNothing}
-use Rattle.json.specs.declared.events.Event.{Event}
 use Rattle.json.specs.declared.machine.Phase.the-variants as P
 use Rattle.json.proofs.Walking.{taken, passed, broken, none-left}
 use borrow.Author.Needs.{needs}
@@ -53,32 +52,43 @@ loop-again c =
     let blank = sym (c .before .is-nothing .ensures ∙ ap isNothing event) ∙ c .if1 .taken in
     (omega (arith, l .inv .0), l .inv .1 ∙ passed text (l .at) (l .state) h (c .before .before .before .next .given .0 .0) on blank)
 
-add-t19 : tie.Need-add-t19 Inv-loop μ-loop
-add-t19 c = search needs
+add-mark-at : tie.Need-add-mark-at Inv-loop μ-loop
+add-mark-at c = search needs
+
+mark-at-requires : tie.Need-mark-at-requires Inv-loop μ-loop
+mark-at-requires c κs = search needs
 
 returns : tie.Need-returns Inv-loop μ-loop
 returns c =
-    let l = c .before .before .before .before .before .before .before .before .before .loop in
-    let text = c .before .before .before .before .before .before .before .before .before .before .before .args .text .now in
-    let h = c .before .before .before .before .before .before .before .before .loop-test .taken in
-    let next = c .before .before .before .next .given .0 .0 in
-    let on = sym (c .before .before .before .before .before .step .ensures) ∙ c .before .before .before .next .given .1 in (
-      l .inv .1 ∙ taken text (l .at) (l .state) h next on
-          ∙ ap (λ (e : Event). mark e (length text - l .at) (drop (l .at + 1) text) (tokensFrom (drop (l .at + 1) text) (next .phase) (next .stack))) (sym (c .before .before .before .before .before .before .event-of .ensures)),
+    let l = c .before .before .before .before .before .before .before .before .before .before .loop in
+    let text = c .before .before .before .before .before .before .before .before .before .before .before .before .args .text .now in
+    let h = c .before .before .before .before .before .before .before .before .before .loop-test .taken in
+    let event = c .before .before .before .before .before .before .before .event-of .ensures in
+    let next = c .before .before .before .before .next .given .0 .0 in
+    let on = sym (c .before .before .before .before .before .before .step .ensures) ∙ c .before .before .before .before .next .given .1 in
+    rw (c .mark-at .ensures, event) (
+      l .inv .1 ∙ taken text (l .at) (l .state) h next on,
       (l .inv .0, omega arith, omega arith),
     )
 
 enum-told : tie.Need-enum-told Inv-loop μ-loop
 enum-told c = search needs
 
+start-requires : tie.Need-start-requires Inv-loop μ-loop
+start-requires c κs = search needs
+
+mark-at-requires-2 : tie.Need-mark-at-requires-2 Inv-loop μ-loop
+mark-at-requires-2 c κs = search needs
+
 returns-2 : tie.Need-returns-2 Inv-loop μ-loop
 returns-2 c =
-    let l = c .before .before .before .before .before .before .loop in
-    let text = c .before .before .before .before .before .before .before .before .args .text .now in
-    let h = c .before .before .before .before .before .loop-test .taken in
-    let off = sym (c .before .before .step .ensures) ∙ c .enum-told .given .1 in (
-      l .inv .1 ∙ broken text (l .at) (l .state) h P.Value 1 off
-          ∙ ap (λ (e : Event). mark e (length text - l .at) (drop (l .at + 1) text) (tokensFrom (drop (length text) text) P.Value 1)) (sym (c .before .before .before .event-of .ensures)),
+    let l = c .before .before .before .before .before .before .before .before .loop in
+    let text = c .before .before .before .before .before .before .before .before .before .before .args .text .now in
+    let h = c .before .before .before .before .before .before .before .loop-test .taken in
+    let event = c .before .before .before .before .before .event-of .ensures in
+    let off = sym (c .before .before .before .before .step .ensures) ∙ c .before .before .enum-told .given .1 in
+    rw (c .mark-at2 .ensures, c .before .start .ensures, event) (
+      l .inv .1 ∙ broken text (l .at) (l .state) h P.Value 1 off,
       (l .inv .0, h, omega arith),
     )
 
@@ -103,8 +113,11 @@ next-token-spec =
     add-at
     loop-less
     loop-again
-    add-t19
+    add-mark-at
+    mark-at-requires
     returns
     enum-told
+    start-requires
+    mark-at-requires-2
     returns-2
     returns-3)
