@@ -54,14 +54,15 @@ module _ (t table : List ℕ) (m : Makes t table) where
   same-bytes : encode (entries (wishes tree)) ≡ table
   same-bytes = ap encode (wished tree ∙ same-entries (statementsOf tree)) ∙ m .is-table
 
-  size : sizeOf (wishes tree) ≡ length table
-  size = sizes (wishes tree) freshState (m .sound-records) ∙ ap length same-bytes
+  -- the records have as many bytes as the table
+  pub table-size : sizeOf (wishes tree) ≡ length table
+  table-size = sizes (wishes tree) freshState (m .sound-records) ∙ ap length same-bytes
 
   -- the table reads, and its statements are the text's
   pub table-reads : (n : ℕ) × (reading table ≡ A.Accepted n)
   table-reads =
       let low : length table ≤ 16384 = m .short in
-      let same = size in
+      let same = table-size in
       let w = json-means tree table (m .sound-records) (omega arith) (omega arith) in
       let s = written-so-far (entries (wishes tree)) table (w .last) (w .left) (w .writes) in
       (w .last .state .rows, sym (ap reading (s .1 ∙ same-bytes)) ∙ w .reads)
@@ -69,7 +70,7 @@ module _ (t table : List ℕ) (m : Makes t table) where
   pub table-says : rowsOf table ≡ statementsOf tree
   table-says =
       let low : length table ≤ 16384 = m .short in
-      let same = size in
+      let same = table-size in
       let w = json-means tree table (m .sound-records) (omega arith) (omega arith) in
       let s = written-so-far (entries (wishes tree)) table (w .last) (w .left) (w .writes) in
       sym (ap rowsOf (s .1 ∙ same-bytes)) ∙ w .says

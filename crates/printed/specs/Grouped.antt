@@ -21,6 +21,7 @@ abbrev pub NoneTwice : List Condition → Type 0
 NoneTwice [] = Unit {0}
 NoneTwice (c ∷ cs) = ((x : Condition) → In x cs → x .operator ≡ c .operator → x .key ≡ c .key → ⊥) × NoneTwice cs
 
+-- a statement whose conditions stand so
 pub record Grouped (s : Statement) : Type 0 where
   pub together : Together (s .conditions)
   pub none-twice : NoneTwice (s .conditions)
