@@ -1,0 +1,1 @@
+// Statements printed as JSON texts: definitions and laws alone.
