@@ -2,6 +2,7 @@
 //! slow where that is clearer, and sharing neither code nor tables with the verified crates.
 
 pub mod compare;
+pub mod json;
 pub mod judge;
 pub mod limits;
 pub mod matching;
@@ -9,6 +10,7 @@ pub mod program;
 pub mod table;
 
 pub use compare::{compare, gap_buffer, CompareRefusal, Comparison, Gap};
+pub use json::read_json;
 pub use judge::{judge, Request, Verdict};
 pub use program::gaps_program;
 pub use table::{read, read_items, Item, Refusal, Table, Writer};
