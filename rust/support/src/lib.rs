@@ -3,5 +3,6 @@
 
 pub mod bench;
 pub mod build;
+pub mod policies;
 pub mod random;
 pub mod strings;

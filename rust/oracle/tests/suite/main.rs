@@ -6,6 +6,7 @@ mod comparing;
 mod enumeration;
 mod errors_that_look_right;
 mod gap_program;
+mod json_drawn;
 mod json_members;
 mod json_networks;
 mod json_places;
