@@ -7,3 +7,4 @@ mod drawn;
 mod limits;
 mod long;
 mod members;
+mod words;
