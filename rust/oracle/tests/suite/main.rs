@@ -16,4 +16,5 @@ mod judging;
 mod marked;
 mod matching;
 mod reading;
+mod real_policies;
 mod writing;

@@ -7,4 +7,5 @@ mod drawn;
 mod limits;
 mod long;
 mod members;
+mod real_policies;
 mod words;
