@@ -2,7 +2,7 @@
 
 use crate::agree::{asked, Seen};
 
-const TEXTS: [&str; 3] = [
+pub const TEXTS: [&str; 3] = [
     // Names and values with escapes and characters of one to four bytes.
     r#"{"Version":"2012-10-17", "Statement":[{"Sid":"\"\\\/\u0041\u007f é€🕰", "Effect":"Allow","Principal":{"AWS":["p"]},"NotAction":"a*","Resource":"r","Condition":{"IpAddress":{"aws:SourceIp":"10.0.0.0/8"}}}]}"#,
     // Numbers and words; eight open at once.

@@ -7,5 +7,6 @@ mod drawn;
 mod limits;
 mod long;
 mod members;
+mod python;
 mod real_policies;
 mod words;
