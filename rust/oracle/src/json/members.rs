@@ -133,7 +133,9 @@ impl Checker {
         let mut conditions = Some(Vec::new());
         for (part, Member { name, value, .. }) in self.members(node, names::part, &NEEDED)? {
             match part {
-                Part::Sid => drop(self.string(value)),
+                Part::Sid => {
+                    self.string(value);
+                }
                 Part::Effect => effect = self.string(value),
                 Part::Element(column) => {
                     let listed = match column {

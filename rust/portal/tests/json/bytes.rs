@@ -1,6 +1,7 @@
 //! Every cut, and every byte at every place, of a few short texts that have every sort of token between them.
 
 use crate::agree::{asked, Seen};
+use support::policies::snippets;
 
 pub const TEXTS: [&str; 3] = [
     // Names and values with escapes and characters of one to four bytes.
@@ -36,6 +37,24 @@ fn every_byte_at_every_place() {
         }
     }
     seen.each_at_least(500, &[0, 3, 8, 20, 21, 22]);
+}
+
+/// Characters well and badly formed, escapes, numbers, words and nests: put in at every place, and in place of a byte.
+#[test]
+fn every_snippet_at_every_place() {
+    let mut seen = Seen::default();
+    for snippet in snippets() {
+        for text in TEXTS {
+            for at in 0..=text.len() {
+                let (before, after) = text.as_bytes().split_at(at);
+                seen.add(asked(&[before, &snippet, after].concat(), 100));
+                if let Some(after) = after.get(1..) {
+                    seen.add(asked(&[before, &snippet, after].concat(), 100));
+                }
+            }
+        }
+    }
+    seen.each_at_least(100, &[0, 20, 21, 22]);
 }
 
 #[test]

@@ -13,7 +13,7 @@ pub use damage::damage;
 pub use draw::{policy, Policy};
 pub use limits::{at_the_limits, near_16384};
 pub use print::{plainly, print, Style};
-pub use spoil::{garbage, spoil};
+pub use spoil::{garbage, snippets, spoil};
 pub use tree::Tree;
 pub use variants::{orders, variants, whole};
 

@@ -94,6 +94,13 @@ const VALUES: [&str; 34] = [
     "[1,]",
 ];
 
+/// Every character, escape and value of the lists above, and nests of eight and nine lists.
+pub fn snippets() -> Vec<Vec<u8>> {
+    let texts = ESCAPES.iter().chain(&VALUES).map(|snippet| snippet.as_bytes().to_vec());
+    let nests = [8, 9].map(|depth| [b"[".repeat(depth), b"]".repeat(depth)].concat());
+    CHARACTERS.iter().map(|snippet| snippet.to_vec()).chain(texts).chain(nests).collect()
+}
+
 /// One change somewhere in the text.
 pub fn spoil(random: &mut Random, text: &mut Vec<u8>) {
     let at = random.below(text.len() + 1);
