@@ -1,6 +1,7 @@
 //! An independent second opinion on the rules (RULES), written apart from the verified crates and for plainness:
 //! slow where that is clearer, and sharing neither code nor tables with the verified crates.
 
+pub mod cases;
 pub mod compare;
 pub mod json;
 pub mod judge;
@@ -9,6 +10,7 @@ pub mod matching;
 pub mod program;
 pub mod table;
 
+pub use cases::policy_cases;
 pub use compare::{compare, gap_buffer, CompareRefusal, Comparison, Gap};
 pub use json::read_json;
 pub use judge::{judge, Request, Verdict};

@@ -15,6 +15,7 @@ mod json_text;
 mod judging;
 mod marked;
 mod matching;
+mod policy_cases;
 mod reading;
 mod real_policies;
 mod writing;
