@@ -5,6 +5,8 @@ use std::time::Duration;
 use crate::contest::Contest;
 use crate::corpus::worst::ALL_KINDS;
 use crate::judging::Rates;
+use crate::lengths::Lengths;
+use crate::reading;
 use crate::stack::{Used, WORKSPACE_BYTES};
 use crate::table::{digits, time};
 
@@ -12,6 +14,8 @@ const TIMES_FASTER: f64 = 10.0;
 const MOST_TIME: Duration = Duration::from_millis(100);
 const TIMES_FEWER: f64 = 20.0;
 const MOST_STACK: usize = 16 * 1_024;
+/// A byte of the longest text may cost so many times one of the shortest, where the time grows linearly.
+const MOST_GROWTH: f64 = 2.0;
 
 /// One goal in words.
 pub struct Goal {
@@ -81,6 +85,31 @@ pub fn judging_no_slower(rates: &[Rates]) -> Vec<Goal> {
         goal(times >= 1.0, text)
     };
     rates.iter().map(one).collect()
+}
+
+pub fn reading_no_slower(rates: &[reading::Rates]) -> Vec<Goal> {
+    let one = |rates: &reading::Rates| {
+        let times = rates.ours / rates.oracle;
+        let text = format!(
+            "reading {} statements, {}: {} times the oracle's rate",
+            rates.statements,
+            rates.written,
+            digits(times)
+        );
+        goal(times >= 1.0, text)
+    };
+    rates.iter().map(one).collect()
+}
+
+/// Of the shortest and the longest text that there is.
+pub fn linear_reading(lengths: &Lengths) -> Goal {
+    let ours: Vec<f64> = lengths.curves[0].nanoseconds.iter().flatten().copied().collect();
+    let times = ours[ours.len() - 1] / ours[0];
+    let late = if lengths.is_late { "; longer ones would take too long" } else { "" };
+    goal(
+        times <= MOST_GROWTH && !lengths.is_late,
+        format!("reading {}: {} times as long a byte in the longest text{late}", lengths.of, digits(times)),
+    )
 }
 
 pub fn little_stack(used: &Used) -> Goal {

@@ -1,4 +1,4 @@
-//! The benchmark: the verified library, the oracle and two solvers on the same pairs of tables.
+//! The benchmark: the verified library, the oracle and two solvers on the same pairs of tables; and python3 on the same policies.
 
 use std::fs;
 use std::process::exit;
@@ -8,7 +8,9 @@ use bench::corpus::{self, worst, Family};
 use bench::goals::{self, Goal};
 use bench::settings::Settings;
 use bench::solvers::{Solver, SOLVERS};
-use bench::{bounds, growth, instructions, judging, machine, plot, stack, summary, table};
+use bench::{
+    bounds, growth, instructions, judging, lengths, machine, plot, python, reading, stack, summary, table,
+};
 
 fn main() {
     let settings = Settings::read().unwrap_or_else(|error| {
@@ -21,6 +23,7 @@ fn main() {
     let found = solvers(&settings, &mut report);
     let contests = contests(&settings, &found, &mut report);
     judge(&settings, &mut report);
+    read(&settings, &mut report);
     grow(&settings, &found, &mut report);
     count(&settings, &mut report);
     bound(&contests, &mut report);
@@ -100,6 +103,27 @@ fn judge(settings: &Settings, report: &mut Report) {
     report.say(&judging::text(&rates));
     report.goals.extend(goals::judging_no_slower(&rates));
     report.differences.extend(rates.into_iter().flat_map(|rates| rates.differences));
+}
+
+/// Policies in the JSON form: how fast they are read, and how the time grows with the text.
+fn read(settings: &Settings, report: &mut Report) {
+    report.say("## Reading JSON\n");
+    match python::version() {
+        Some(version) => report.say(&format!("python3: {version}\n")),
+        None => report.say("python3 is not installed: going on without it\n"),
+    }
+    report.say("megabytes a second");
+    let rates = reading::run(settings.seed, settings.policies);
+    report.say(&reading::text(&rates));
+    report.goals.extend(goals::reading_no_slower(&rates));
+    report.differences.extend(rates.into_iter().flat_map(|rates| rates.differences));
+    report.say("nanoseconds a byte\n");
+    for kind in &corpus::texts::ALL {
+        let lengths = lengths::run(kind, settings);
+        report.say(&lengths::text(&lengths));
+        report.goals.push(goals::linear_reading(&lengths));
+        report.differences.extend(lengths.differences);
+    }
 }
 
 fn grow(settings: &Settings, found: &[Solver], report: &mut Report) {

@@ -12,6 +12,8 @@ pub struct Settings {
     pub folder: PathBuf,
     /// Pairs of each family that is drawn at random.
     pub pairs: usize,
+    /// Policies of each number of statements.
+    pub policies: usize,
     /// A solver is stopped after this time.
     pub limit: Duration,
     /// Once a solver has spent this on one family in one encoding, the rest of the family's pairs are left out.
@@ -49,16 +51,17 @@ impl Settings {
 
     fn of(quick: bool) -> Settings {
         let milliseconds = Duration::from_millis;
-        let (pairs, limit, budget, repeats) = if quick {
-            (4, milliseconds(1_000), milliseconds(300), 1)
+        let (pairs, policies, limit, budget, repeats) = if quick {
+            (4, 2, milliseconds(1_000), milliseconds(300), 1)
         } else {
-            (100, milliseconds(10_000), milliseconds(2_000), 3)
+            (100, 12, milliseconds(10_000), milliseconds(2_000), 3)
         };
         Settings {
             quick,
             seed: 1,
             folder: PathBuf::from("target/bench"),
             pairs,
+            policies,
             limit,
             budget,
             repeats,

@@ -74,6 +74,16 @@ pub fn gap(answer: u64, values: &[u8]) -> Result<Gap, Refusal> {
     })
 }
 
+/// The answer of `stamenhum_read_json`: the number of bytes written, or a refusal's number and place, which is
+/// `number * 2^56 + place`.
+pub fn written(answer: u64) -> Result<usize, (u16, usize)> {
+    let (number, low) = ((answer >> 56) as u16, (answer & ((1 << 56) - 1)) as usize);
+    match number {
+        0 => Ok(low),
+        _ => Err((number, low)),
+    }
+}
+
 /// "A value's length is the number of bytes before the first zero in its 512."
 fn string_of(room: &[u8]) -> Vec<u8> {
     room.iter().copied().take_while(|&byte| byte != 0).collect()
@@ -107,6 +117,15 @@ mod tests {
         assert_eq!(count(16_777_216), Ok(16_777_216));
         assert_eq!(count(1 << 48 | 1 << 32 | 16_384), Err(Refusal { number: 1, table: 1, place: 16_384 }));
         assert_eq!(count(2 << 48 | 4 << 32 | 7), Err(Refusal { number: 4, table: 2, place: 7 }));
+    }
+
+    #[test]
+    fn tables_written() {
+        assert_eq!(written(3), Ok(3));
+        assert_eq!(written(16_384), Ok(16_384));
+        assert_eq!(written(20 << 56), Err((20, 0)));
+        assert_eq!(written(1 << 56 | 16_384), Err((1, 16_384)));
+        assert_eq!(written(22 << 56 | 0xFF_FFFF_FFFF_FFFF), Err((22, (1 << 56) - 1)));
     }
 
     #[test]

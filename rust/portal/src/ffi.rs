@@ -40,6 +40,8 @@ extern "C" {
         values: *mut u8,
         values_length: usize,
     ) -> u64;
+
+    fn stamenhum_read_json(json: *const u8, json_length: usize, table: *mut u8, table_length: usize) -> u64;
 }
 
 /// A request as the entry point takes it: three strings, the keys by code, and which of the keys are there.
@@ -105,4 +107,11 @@ pub fn gap(first: &[u8], second: &[u8], k: u64, values: &mut [u8]) -> u64 {
             values.len(),
         )
     }
+}
+
+/// The number of bytes of a policy's table, which then stand at the beginning of `table`, or the number of a refusal,
+/// which leaves `table` as it was: number * 2^56 + place.
+pub fn read_json(json: &[u8], table: &mut [u8]) -> u64 {
+    // SAFETY: as for `judge`; `table` is borrowed alone, and the library writes no byte outside it.
+    unsafe { stamenhum_read_json(json.as_ptr(), json.len(), table.as_mut_ptr(), table.len()) }
 }

@@ -1,9 +1,10 @@
 //! Judging and comparing access tables, by the verified library `libportal.a`. This is what the portal's service
 //! links.
 //!
-//! A table is a byte string in the stored form. [`judge`] says whether it allows one [`Request`]; [`compare`] lists
-//! what one table allows and another does not. Both answer for every input, or refuse with a [`Refusal`] that says
-//! why and where. What they compute is proved; this package only lends them memory and decodes their answers.
+//! A table is a byte string in the stored form; [`Table::from_json`] makes one of a policy in the public JSON form.
+//! [`judge`] says whether it allows one [`Request`]; [`compare`] lists what one table allows and another does not. All
+//! answer for every input, or refuse with a [`Refusal`] or [`JsonRefusal`] that says why and where. What they compute is
+//! proved; this package only lends them memory and decodes their answers.
 
 #![deny(unsafe_code)]
 
@@ -13,15 +14,19 @@ mod compare;
 #[allow(unsafe_code)]
 pub mod ffi;
 mod gap;
+mod json;
 mod refusal;
 mod request;
+mod table;
 mod verdict;
 
 pub use columns::Key;
 pub use compare::{compare, Gaps, GapsIter};
 pub use gap::Gap;
+pub use json::JsonRefusal;
 pub use refusal::Refusal;
 pub use request::Request;
+pub use table::Table;
 pub use verdict::Verdict;
 
 /// Judges one request by one table.

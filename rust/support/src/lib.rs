@@ -3,5 +3,7 @@
 
 pub mod bench;
 pub mod build;
+pub mod documents;
+pub mod policies;
 pub mod random;
 pub mod strings;

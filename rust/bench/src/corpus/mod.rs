@@ -4,7 +4,9 @@ pub mod build;
 mod changes;
 pub mod growth;
 mod papers;
+pub mod policies;
 pub mod realistic;
+pub mod texts;
 mod triples;
 pub mod worst;
 

@@ -7,6 +7,7 @@ mod records;
 mod writer;
 
 pub use codes::{Effect, ElementColumn, Key, Operator, Test};
+pub(crate) use progress::Progress;
 pub use reader::{read, read_items};
 pub use records::{record_length, Kind};
 pub use writer::Writer;
