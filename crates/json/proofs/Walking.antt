@@ -1,11 +1,11 @@
 -- A walk over the bytes of a text that takes every token as it is met: one byte, in terms of the tokens from there on.
 use Prim.Native.Nat.{ℕ, suc, _+_, _-_, _≤_, _<_}
-use mathlib.Core.Bool.{Bool, true, false}
-use mathlib.Core.Path.{_≡_, refl, sym, _∙_, ap}
-use mathlib.Core.List.{List, [], _∷_}
+use mathlib.Core.Bool.{true}
+use mathlib.Core.Path.{_≡_, refl, _∙_, ap}
+use mathlib.Core.List.{List, []}
 use lib.ListN.{length, getD, drop, length-drop, drop-of-length-le}
 use native.Mathlib.Omega.{arith}
-use Rattle.json.proofs.Choosing.{never, choose, ranged}
+use Rattle.json.proofs.Choosing.{never}
 use Rattle.json.specs.machinery.Machine.{stepIn, stepOf}
 use Rattle.json.specs.machinery.Events.{eventOf}
 use Rattle.json.specs.machinery.Tokens.{Token, mark, further, tokensFrom}

@@ -1,10 +1,10 @@
-// JSON texts (RFC 8259, with the limits of Req 02): which byte strings are one, and the first byte that fails.
+// JSON texts: which byte strings are one, the first byte that fails, and the tokens and strings of those that are.
 mod bytes;
-pub mod machine;
-pub mod numbers;
-pub mod reader;
 pub mod strings;
+pub mod numbers;
 pub mod words;
-pub mod pieces;
+pub mod machine;
+pub mod reader;
 pub mod events;
+pub mod pieces;
 pub mod tokens;

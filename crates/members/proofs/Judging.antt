@@ -4,12 +4,12 @@ use mathlib.Core.Path.{_≡_, refl, sym, _∙_, ap}
 use mathlib.Core.Bool.{Bool, true, false}
 use mathlib.Core.List.{List, [], _∷_}
 use lib.Dec.{eqb, leb}
-use Rattle.json.specs.Choice.{pick}
+use Rattle.json.specs.Choice.{pick, sameBytes}
 use Rattle.json.specs.Trees.{Shape, Tree, treeOf}
 use Rattle.json.specs.Trees.Shape.{one, several, named}
 use Rattle.json.specs.Trees.Tree.{text, other, list, object, end-list, element, end-object, member}
 use Rattle.json.specs.machinery.Tokens.{Token, flat}
-use Rattle.json.specs.Choice.{sameBytes}
+use Rattle.json.specs.Texts.{ascii}
 use Rattle.json.specs.declared.events.Event.{Event}
 use Rattle.members.specs.Members.{Verdict, following, versionText, topKind, rowKind, awsKind, operatorKind, keyKind, rowSlot, isSeen, add, isBad, eachText, strings, anyText, thisText, keys, operator, operators, condition, awsWhole, aws, principal, rowValue, rowWhole, row, eachRow, rows, topValue, topWhole, top, document}
 use Rattle.members.specs.Members.Verdict.{fine, refused}
@@ -95,7 +95,7 @@ aws-members (member n x v ms) ts a b c f =
 -- members of a statement
 row-value : (v : Tree one) (ts : List Token) (k a b : ℕ) (f : Bool)
     → judge (flat v ts) (at L.Row k a b 0 0 0 f) ≡ following (rowValue k v) (judge ts (at L.Row 0 a b 0 0 0 f))
-row-value (text n bs) ts k a b f = by (leb k 2) (leb k 4) (leb k 8) (sameBytes bs (0x2A ∷ []))
+row-value (text n bs) ts k a b f = by (leb k 2) (leb k 4) (leb k 8) (sameBytes bs (ascii "*"))
   where
     by : (x y z w : Bool)
         → afterTurn (judge ts) n (pick x (go L.Row 0 a b 0 0 0 f) (pick y (pick w (go L.Row 0 a b 0 0 0 f) (T.Refused 22)) (pick z (go L.Row 0 a b 0 0 0 f) (T.Refused 22))))

@@ -1,4 +1,5 @@
 pub mod OneByte
+pub mod OneToken
 pub mod Folded
 pub mod Judging
 pub mod Promises

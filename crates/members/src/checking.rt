@@ -1,11 +1,11 @@
-// The members of a document: the first 21 or 22, by one pass over the bytes.
+// The members of a document: the first 21 or 22, by one pass over its tokens.
 use crate::levels::after_token;
 use crate::state::Level;
 use crate::state::State;
 use crate::state::Turn;
-use json::events::event_of;
-use json::machine::start;
-use json::machine::step;
+use json::tokens::Met;
+use json::tokens::first_mark;
+use json::tokens::next_token;
 ghost use mathlib.Core.Path.{_≡_};
 ghost use Rattle.members.specs.machinery.Levels.{startMembers, membersOf};
 
@@ -34,30 +34,24 @@ fn begin() -> State
 pub fn members_fault(text: &[u8]) -> Checked
     ensures { λ r. ⌜ r ≡ membersOf (now (text .entry)) ⌝ }
 {
-    let mut place = start();
+    let mut here = first_mark();
     let mut state = begin();
-    let mut at: usize = 0;
-    while at < text.len() {
-        let byte = text[at];
-        let phase = place.phase;
-        let event = event_of(phase, byte);
-        match after_token(state, event, text, at + 1) {
-            Turn::Next(next) => {
-                match step(place, byte) {
-                    json::machine::Turn::Next(further) => {
-                        place = further;
+    loop {
+        match next_token(text, here) {
+            Met::None => {
+                return Checked::Sound;
+            }
+            Met::Token(event, at, behind) => {
+                match after_token(state, event, text, at + 1) {
+                    Turn::Next(next) => {
                         state = next;
-                        at += 1;
+                        here = behind;
                     }
-                    json::machine::Turn::Fails => {
-                        return Checked::Sound;
+                    Turn::Refused(number) => {
+                        return Checked::Refused(number, at);
                     }
                 }
             }
-            Turn::Refused(number) => {
-                return Checked::Refused(number, at);
-            }
         }
     }
-    Checked::Sound
 }

@@ -3,14 +3,16 @@ ghost use mathlib.Core.Path.{_≡_};
 ghost use Prim.Native.Nat.{_<_};
 ghost use Rattle.members.specs.Members.{isSeen, add, isBad, rowSlot};
 
-pub fn is_seen(seen: u16, slot: u8) -> bool
+// A member was met.
+pub(crate) fn is_seen(seen: u16, slot: u8) -> bool
     requires { ⌜ slot < 16 ⌝ }
     ensures { λ r. ⌜ r ≡ isSeen seen slot ⌝ }
 {
     (seen >> slot) % 2 == 1
 }
 
-pub fn with_mark(seen: u16, slot: u8) -> u16
+// One member more was met.
+pub(crate) fn with_mark(seen: u16, slot: u8) -> u16
     requires { ⌜ slot < 16 ⌝ }
     ensures { λ r. ⌜ r ≡ add seen slot ⌝ }
 {
@@ -18,7 +20,7 @@ pub fn with_mark(seen: u16, slot: u8) -> u16
 }
 
 // Unknown, or met before.
-pub fn is_bad(kind: u8, slot: u8, seen: u16) -> bool
+pub(crate) fn is_bad(kind: u8, slot: u8, seen: u16) -> bool
     requires { ⌜ slot < 16 ⌝ }
     ensures { λ r. ⌜ r ≡ isBad kind slot seen ⌝ }
 {
@@ -28,7 +30,6 @@ pub fn is_bad(kind: u8, slot: u8, seen: u16) -> bool
 
 // A form and its Not-form have one mark.
 pub fn row_slot(kind: u8) -> u8
-    requires { ⌜ kind < 16 ⌝ }
     ensures value { λ r. ⌜ r ≡ rowSlot kind ⌝ }
     ensures small { λ r. ⌜ r < 16 ⌝ }
 {

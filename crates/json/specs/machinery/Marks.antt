@@ -1,8 +1,7 @@
 -- The tokens of a text from a place on.
 use Prim.Native.Nat.{ℕ, _+_, _-_, _≤_, _<_}
 use mathlib.Core.Bool.{Bool, true, false}
-
-use mathlib.Core.List.{List, [], _∷_}
+use mathlib.Core.List.{List, []}
 use lib.ListN.{length, drop}
 use Rattle.json.specs.machinery.Tokens.{Token, mark, tokensFrom}
 use Rattle.json.specs.declared.events.Event.{Event}

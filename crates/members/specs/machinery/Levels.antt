@@ -4,9 +4,9 @@ use mathlib.Core.Bool.{Bool, true, false}
 use mathlib.Core.List.{List, [], _∷_}
 use lib.ListN.{length}
 use lib.Dec.{eqb, leb}
-use Rattle.json.specs.Choice.{pick}
+use Rattle.json.specs.Choice.{pick, sameBytes}
 use Rattle.json.specs.machinery.Tokens.{Token, tokensOf}
-use Rattle.json.specs.Choice.{sameBytes}
+use Rattle.json.specs.Texts.{ascii}
 use Rattle.json.specs.declared.events.Event.{Event}
 use Rattle.json.specs.declared.events.Event.the-variants as E
 use Rattle.json.specs.machinery.Tokens.Token.{name, text, other, open-list, close-list, open-object, close-object}
@@ -99,7 +99,7 @@ inRow s E.Name bs =
     (go L.Row (rowKind bs) (s .top) (add (s .row) (rowSlot (rowKind bs))) 0 0 0 (s .listed))
 inRow s E.Text bs =
     pick (leb (s .due) 2) (go L.Row 0 (s .top) (s .row) 0 0 0 (s .listed))
-    (pick (leb (s .due) 4) (pick (sameBytes bs (0x2A ∷ [])) (go L.Row 0 (s .top) (s .row) 0 0 0 (s .listed)) (T.Refused 22))
+    (pick (leb (s .due) 4) (pick (sameBytes bs (ascii "*")) (go L.Row 0 (s .top) (s .row) 0 0 0 (s .listed)) (T.Refused 22))
     (pick (leb (s .due) 8) (go L.Row 0 (s .top) (s .row) 0 0 0 (s .listed)) (T.Refused 22)))
 inRow s E.Other bs = T.Refused 22
 inRow s E.OpenList bs =

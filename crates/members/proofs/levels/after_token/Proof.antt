@@ -5,20 +5,20 @@ use mathlib.Core.List.{[]}
 use lib.ListN.{drop}
 use Rattle.json.specs.machinery.Pieces.{contentOf}
 use Rattle.members.specs.declared.state.Level.the-variants as L
-use Rattle.members.proofs.OneByte.{outside-deaf, rows-deaf, strings-deaf}
+use Rattle.members.proofs.OneToken.{outside-deaf, rows-deaf, strings-deaf}
 use mathlib.Core.Path.{sym, _∙_}
 use borrow.Author.Needs.{needs}
 use Rattle.members.proofs.levels.after_token.Statement.{statement}
 use Rattle.members.proofs.levels.after_token.Tie as tie
 use Rattle.members.proofs.levels.after_token.Reads as reads
 use Rattle.members.proofs.levels.after_token.Lts as lts
-use Rattle.members.proofs.levels.in_keys.Reads as in-keys-reads
-use Rattle.members.proofs.levels.in_operators.Reads as in-operators-reads
-use Rattle.members.proofs.levels.in_principals.Reads as in-principals-reads
-use Rattle.members.proofs.levels.in_row.Reads as in-row-reads
-use Rattle.members.proofs.levels.in_rows.Reads as in-rows-reads
+use Rattle.members.proofs.condition.in_keys.Reads as in-keys-reads
+use Rattle.members.proofs.condition.in_operators.Reads as in-operators-reads
+use Rattle.members.proofs.principal.in_principals.Reads as in-principals-reads
+use Rattle.members.proofs.statement.in_row.Reads as in-row-reads
+use Rattle.members.proofs.document.in_rows.Reads as in-rows-reads
 use Rattle.members.proofs.levels.in_strings.Reads as in-strings-reads
-use Rattle.members.proofs.levels.in_top.Reads as in-top-reads
+use Rattle.members.proofs.document.in_top.Reads as in-top-reads
 use Rattle.members.proofs.levels.outside.Reads as outside-reads
 
 enum-told : tie.Need-enum-told

@@ -4,7 +4,7 @@ use Rattle.members.proofs.levels.outside.Statement.{statement}
 use Rattle.members.proofs.levels.outside.Tie as tie
 use Rattle.members.proofs.levels.outside.Reads as reads
 use Rattle.members.proofs.levels.outside.Lts as lts
-use Rattle.members.proofs.levels.next.Reads as next-reads
+use Rattle.members.proofs.state.next.Reads as next-reads
 
 enum-told : tie.Need-enum-told
 enum-told c = search needs

@@ -1,0 +1,10 @@
+-- A text as its bytes.
+use Prim.Native.Nat.{ℕ}
+use Prim.Native.Char.{code}
+use Prim.Native.String.{String, [] as empty, _∷_ as _then_}
+use mathlib.Core.List.{List, [], _∷_}
+
+-- the bytes of a text, each letter's code
+abbrev pub ascii : String → List ℕ
+ascii empty = []
+ascii (c then s) = code c ∷ ascii s
