@@ -56,6 +56,15 @@ module _ (t : List ℕ) (at : ℕ) (j : State) (h : at < length t) where
   unfolding stepOf
   broken p w e = met t at (j .phase) (j .stack) h ∙ rw (e, drop-of-length-le t {i = length t} (omega arith))
 
+  -- and where it is no token, there is none from it on
+  pub failed : stepOf j (getD t at 0) ≡ T.Fails → isNothing (eventOf (j .phase) (getD t at 0)) ≡ true
+      → tokensFrom (drop at t) (j .phase) (j .stack) ≡ []
+  unfolding stepOf
+  failed e f =
+      met t at (j .phase) (j .stack) h
+      ∙ unmarked (eventOf (j .phase) (getD t at 0)) (length t - at) (drop (at + 1) t) (further (tokensFrom (drop (at + 1) t)) (stepIn (j .phase) (j .stack) (getD t at 0))) f
+      ∙ rw e
+
 -- no token stands at the end
 pub none-left : (t : List ℕ) (at : ℕ) (j : State) → length t ≤ at → tokensFrom (drop at t) (j .phase) (j .stack) ≡ []
 none-left t at j h = rw (drop-of-length-le t h)

@@ -8,3 +8,4 @@ pub mod Pieces
 pub mod Events
 pub mod Tokens
 pub mod Marks
+pub mod Runs

@@ -4,6 +4,7 @@ pub mod strings;
 pub mod numbers;
 pub mod words;
 pub mod machine;
+mod runs;
 pub mod reader;
 pub mod events;
 pub mod pieces;

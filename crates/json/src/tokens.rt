@@ -5,6 +5,7 @@ use crate::machine::Phase;
 use crate::machine::State;
 use crate::machine::Turn;
 use crate::machine::step;
+use crate::runs::run_end;
 ghost use mathlib.Core.Path.{_≡_};
 ghost use lib.ListN.{length};
 ghost use Rattle.json.specs.machinery.Marks.{isNothing, startMark, tokensAt, metTokens, Ahead};
@@ -64,8 +65,9 @@ pub fn next_token(text: &[u8], from: Mark) -> Met
         match step(state, byte) {
             Turn::Next(next) => {
                 if is_nothing(event) {
+                    let further = next.phase;
+                    at = run_end(text, at + 1, further);
                     state = next;
-                    at += 1;
                 } else {
                     let phase = next.phase;
                     let stack = next.stack;
@@ -73,6 +75,9 @@ pub fn next_token(text: &[u8], from: Mark) -> Met
                 }
             }
             Turn::Fails => {
+                if is_nothing(event) {
+                    return Met::None;
+                }
                 return Met::Token(event, at, Mark { at: text.len(), phase: Phase::Value, stack: 1 });
             }
         }

@@ -2,22 +2,21 @@
 use Prim.Native.Nat.{ℕ}
 use mathlib.Core.Path.{_≡_, refl, sym, _∙_, ap}
 use mathlib.Core.Bool.{Bool, true, false}
-use mathlib.Core.List.{List, [], _∷_}
+use mathlib.Core.List.{List, []}
 use lib.Dec.{eqb, leb}
 use Rattle.json.specs.Choice.{pick, sameBytes}
-use Rattle.json.specs.Trees.{Shape, Tree, treeOf}
+use Rattle.json.specs.Trees.{Tree}
 use Rattle.json.specs.Trees.Shape.{one, several, named}
 use Rattle.json.specs.Trees.Tree.{text, other, list, object, end-list, element, end-object, member}
 use Rattle.json.specs.machinery.Tokens.{Token, flat}
 use Rattle.json.specs.Texts.{ascii}
 use Rattle.json.specs.declared.events.Event.{Event}
-use Rattle.members.specs.Members.{Verdict, following, versionText, topKind, rowKind, awsKind, operatorKind, keyKind, rowSlot, isSeen, add, isBad, eachText, strings, anyText, thisText, keys, operator, operators, condition, awsWhole, aws, principal, rowValue, rowWhole, row, eachRow, rows, topValue, topWhole, top, document}
+use Rattle.members.specs.Members.{Verdict, following, versionText, topKind, rowKind, awsKind, operatorKind, keyKind, rowSlot, add, isBad, eachText, strings, keys, operator, operators, awsWhole, aws, rowValue, rowWhole, row, eachRow, topValue, topWhole, top, document}
 use Rattle.members.specs.Members.Verdict.{fine, refused}
 use Rattle.members.specs.machinery.Levels.{at, go, inStrings, behindRow, turnIn, afterTurn, judge}
 use Rattle.members.specs.declared.state.Level.{Level}
 use Rattle.members.specs.declared.state.Level.the-variants as L
 use Rattle.members.specs.declared.state.State.{State}
-use Rattle.members.specs.declared.state.Turn.{Turn}
 use Rattle.members.specs.declared.state.Turn.the-variants as T
 
 regroup : (c m v : Verdict) → following (following c m) v ≡ following c (following m v)

@@ -1,7 +1,7 @@
 -- The pass over the tokens: one token, and what it leads to.
 use Prim.Native.Nat.{ℕ, _+_, _-_, _<_}
 use mathlib.Core.Path.{_≡_, refl, sym, _∙_, ap}
-use mathlib.Core.List.{List, [], _∷_}
+use mathlib.Core.List.{List, []}
 use lib.ListN.{length, drop}
 use native.Mathlib.Omega.{arith}
 use Rattle.json.specs.machinery.Pieces.{contentOf}
@@ -11,7 +11,7 @@ use Rattle.json.specs.declared.events.Event.{Event}
 use Rattle.json.specs.declared.events.Event.the-variants as E
 use Rattle.json.specs.declared.tokens.Mark.{Mark}
 use Rattle.json.specs.declared.tokens.Met.the-variants as M
-use Rattle.members.specs.Members.Verdict.{fine, refused}
+use Rattle.members.specs.Members.Verdict.{fine}
 use Rattle.members.specs.machinery.Levels.{outside, inRows, inStrings, turnIn, afterTurn, judge, placed}
 use Rattle.members.specs.declared.checking.Checked.the-variants as C
 use Rattle.members.specs.declared.state.Level.{Level}

@@ -23,7 +23,16 @@ fn operator_name(state: State, text: &[u8], from: usize) -> Turn
     if is_bad(kind, kind, seen) {
         return Turn::Refused(21);
     }
-    next(Level::Operators, kind, state.top, state.row, 0, with_mark(seen, kind), 0, state.listed)
+    next(
+        Level::Operators,
+        kind,
+        state.top,
+        state.row,
+        0,
+        with_mark(seen, kind),
+        0,
+        state.listed,
+    )
 }
 
 // A token among the operators of a condition.
@@ -37,7 +46,16 @@ pub(crate) fn in_operators(state: State, event: Event, text: &[u8], from: usize)
         Event::Other => Turn::Refused(22),
         Event::OpenList => Turn::Refused(22),
         Event::CloseList => Turn::Next(state),
-        Event::OpenObject => next(Level::Keys, 0, state.top, state.row, 0, state.operators, 0, state.listed),
+        Event::OpenObject => next(
+            Level::Keys,
+            0,
+            state.top,
+            state.row,
+            0,
+            state.operators,
+            0,
+            state.listed,
+        ),
         Event::CloseObject => next(Level::Row, 0, state.top, state.row, 0, 0, 0, state.listed),
     }
 }
@@ -51,7 +69,16 @@ fn key_name(state: State, text: &[u8], from: usize) -> Turn
     if is_bad(kind, kind, seen) {
         return Turn::Refused(21);
     }
-    next(Level::Keys, kind, state.top, state.row, 0, state.operators, with_mark(seen, kind), state.listed)
+    next(
+        Level::Keys,
+        kind,
+        state.top,
+        state.row,
+        0,
+        state.operators,
+        with_mark(seen, kind),
+        state.listed,
+    )
 }
 
 // A token among the keys of an operator.
@@ -61,11 +88,38 @@ pub(crate) fn in_keys(state: State, event: Event, text: &[u8], from: usize) -> T
     match event {
         Event::Nothing => Turn::Next(state),
         Event::Name => key_name(state, text, from),
-        Event::Text => next(Level::Keys, 0, state.top, state.row, 0, state.operators, state.keys, state.listed),
+        Event::Text => next(
+            Level::Keys,
+            0,
+            state.top,
+            state.row,
+            0,
+            state.operators,
+            state.keys,
+            state.listed,
+        ),
         Event::Other => Turn::Refused(22),
-        Event::OpenList => next(Level::KeyStrings, 0, state.top, state.row, 0, state.operators, state.keys, state.listed),
+        Event::OpenList => next(
+            Level::KeyStrings,
+            0,
+            state.top,
+            state.row,
+            0,
+            state.operators,
+            state.keys,
+            state.listed,
+        ),
         Event::CloseList => Turn::Next(state),
         Event::OpenObject => Turn::Refused(22),
-        Event::CloseObject => next(Level::Operators, 0, state.top, state.row, 0, state.operators, 0, state.listed),
+        Event::CloseObject => next(
+            Level::Operators,
+            0,
+            state.top,
+            state.row,
+            0,
+            state.operators,
+            0,
+            state.listed,
+        ),
     }
 }

@@ -42,7 +42,16 @@ fn in_strings(back: Level, state: State, event: Event) -> Turn
         Event::Text => Turn::Next(state),
         Event::Other => Turn::Refused(22),
         Event::OpenList => Turn::Refused(22),
-        Event::CloseList => next(back, 0, state.top, state.row, state.principals, state.operators, state.keys, state.listed),
+        Event::CloseList => next(
+            back,
+            0,
+            state.top,
+            state.row,
+            state.principals,
+            state.operators,
+            state.keys,
+            state.listed,
+        ),
         Event::OpenObject => Turn::Refused(22),
         Event::CloseObject => Turn::Next(state),
     }

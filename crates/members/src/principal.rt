@@ -24,7 +24,16 @@ fn aws_name(state: State, text: &[u8], from: usize) -> Turn
     if is_bad(kind, kind, seen) {
         return Turn::Refused(21);
     }
-    next(Level::Principals, kind, state.top, state.row, with_mark(seen, kind), 0, 0, state.listed)
+    next(
+        Level::Principals,
+        kind,
+        state.top,
+        state.row,
+        with_mark(seen, kind),
+        0,
+        0,
+        state.listed,
+    )
 }
 
 // The closing brace: 22 where AWS is missing.
@@ -44,9 +53,27 @@ pub(crate) fn in_principals(state: State, event: Event, text: &[u8], from: usize
     match event {
         Event::Nothing => Turn::Next(state),
         Event::Name => aws_name(state, text, from),
-        Event::Text => next(Level::Principals, 0, state.top, state.row, state.principals, 0, 0, state.listed),
+        Event::Text => next(
+            Level::Principals,
+            0,
+            state.top,
+            state.row,
+            state.principals,
+            0,
+            0,
+            state.listed,
+        ),
         Event::Other => Turn::Refused(22),
-        Event::OpenList => next(Level::PrincipalStrings, 0, state.top, state.row, state.principals, 0, 0, state.listed),
+        Event::OpenList => next(
+            Level::PrincipalStrings,
+            0,
+            state.top,
+            state.row,
+            state.principals,
+            0,
+            0,
+            state.listed,
+        ),
         Event::CloseList => Turn::Next(state),
         Event::OpenObject => Turn::Refused(22),
         Event::CloseObject => aws_end(state),

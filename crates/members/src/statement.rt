@@ -49,7 +49,16 @@ fn row_name(state: State, text: &[u8], from: usize) -> Turn
     if is_bad(kind, slot, seen) {
         return Turn::Refused(21);
     }
-    next(Level::Row, kind, state.top, with_mark(seen, slot), 0, 0, 0, state.listed)
+    next(
+        Level::Row,
+        kind,
+        state.top,
+        with_mark(seen, slot),
+        0,
+        0,
+        0,
+        state.listed,
+    )
 }
 
 // A string: any for Sid, Effect, actions and resources; `*` alone for a principal.
@@ -82,7 +91,16 @@ fn row_list(state: State) -> Turn
         return Turn::Refused(22);
     }
     if state.due <= 8 {
-        return next(Level::RowStrings, 0, state.top, state.row, 0, 0, 0, state.listed);
+        return next(
+            Level::RowStrings,
+            0,
+            state.top,
+            state.row,
+            0,
+            0,
+            0,
+            state.listed,
+        );
     }
     Turn::Refused(22)
 }
@@ -95,12 +113,30 @@ fn row_object(state: State) -> Turn
         return Turn::Refused(22);
     }
     if state.due <= 4 {
-        return next(Level::Principals, 0, state.top, state.row, 0, 0, 0, state.listed);
+        return next(
+            Level::Principals,
+            0,
+            state.top,
+            state.row,
+            0,
+            0,
+            0,
+            state.listed,
+        );
     }
     if state.due <= 8 {
         return Turn::Refused(22);
     }
-    next(Level::Operators, 0, state.top, state.row, 0, 0, 0, state.listed)
+    next(
+        Level::Operators,
+        0,
+        state.top,
+        state.row,
+        0,
+        0,
+        0,
+        state.listed,
+    )
 }
 
 // The closing brace: 22 where something is missing.

@@ -1,5 +1,4 @@
 pub mod Gathering
-pub mod SoughtByte
 pub mod Wished
 pub mod Seeking
 pub mod Addresses

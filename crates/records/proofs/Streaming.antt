@@ -25,8 +25,8 @@ use Rattle.members.specs.Members.Verdict.{fine, refused}
 use Rattle.records.specs.Documents.{Found, held, stated, eachStatement, statementsUnder, under, marked, membersOf, holder, same, bytes, operatorAt, keyAt, columnAt}
 use Rattle.records.specs.Wishes.{Wish, stringWish, eachWish, listWishes, valueWishes, effectWish, elementWishes, keyWishes, operatorWishes, statementWishes, rowWishes, rowsWishes, wishes}
 use Rattle.records.specs.Wishes.Wish.{made, strange, empty, unread}
-use Rattle.records.specs.machinery.Walkers.{Sought, seek}
-use Rattle.records.specs.machinery.Streams.{Hold, Spot, Among, afterString, closing, valuesFrom, conditionsFrom, nextPlace, effectOn, effectFrom, elementFrom, conditionFrom, rowFrom, rowsFrom, countFrom, statementFrom, documentFrom}
+use Rattle.records.specs.machinery.Walkers.{Sought, nextPlace, seek}
+use Rattle.records.specs.machinery.Streams.{Hold, Spot, Among, afterString, closing, valuesFrom, conditionsFrom, effectOn, effectFrom, elementFrom, conditionFrom, rowFrom, rowsFrom, countFrom, statementFrom, documentFrom}
 use Rattle.records.specs.machinery.Streams.Hold.{outside, fresh, filled}
 use Rattle.records.specs.declared.walking.Table.the-variants as W
 use Rattle.records.proofs.Seeking.{soughtIn, seeks}

@@ -1,34 +1,25 @@
-// Walks over the bytes of a document that has no fault: to the value of a member.
+// Walks over the tokens of a document: to the value of a member.
+use json::events::Event;
+use json::tokens::Mark;
+use json::tokens::Met;
+use json::tokens::next_token;
 use members::marks::row_slot;
 use members::names::row_kind;
 use members::names::top_kind;
-use json::events::Event;
-use json::events::event_of;
-use json::machine::Phase;
-use json::machine::State;
-use json::machine::Turn;
-use json::machine::step;
 ghost use mathlib.Core.Path.{_≡_};
-ghost use Prim.Native.Nat.{_<_};
+ghost use Prim.Native.Nat.{_<_, _-_};
 ghost use mathlib.Core.List.{[]};
-ghost use lib.ListN.{drop};
+ghost use lib.ListN.{drop, length};
 ghost use Rattle.json.specs.machinery.Pieces.{contentOf};
-ghost use Rattle.json.specs.machinery.Tokens.{tokensFrom};
+ghost use Rattle.json.specs.machinery.Marks.{tokensAt};
 ghost use Rattle.json.specs.declared.events.Event.the-variants as E;
 ghost use Rattle.records.specs.declared.walking.Table.the-variants as W;
-ghost use Rattle.records.specs.machinery.Walkers.{kindIn, slotIn, seekTurn, seek, told};
+ghost use Rattle.records.specs.machinery.Walkers.{nextPlace, kindIn, slotIn, seekTurn, seek, told};
 
 // The object whose members are sought.
 pub enum Table {
     Top,
     Row,
-}
-
-// A place, with the state of the machine there.
-pub struct Mark {
-    pub at: usize,
-    pub phase: Phase,
-    pub stack: u16,
 }
 
 pub enum Sought {
@@ -42,6 +33,16 @@ pub enum Moved {
     On(usize),
     Gone,
     Here(u8),
+}
+
+// The place of the next token; the text's end where there is none.
+pub(crate) fn place_from(text: &[u8], from: Mark) -> usize
+    ensures { λ r. ⌜ nextPlace (tokensAt (now (text .entry)) from) ≡ length (now (text .entry)) - r ⌝ }
+{
+    match next_token(text, from) {
+        Met::None => text.len(),
+        Met::Token(event, at, behind) => at,
+    }
 }
 
 fn kind_in(table: Table, text: &[u8], from: usize) -> u8
@@ -103,47 +104,30 @@ fn seek_turn(table: Table, slot: u8, depth: usize, event: Event, text: &[u8], fr
 }
 
 // The first member with a mark, among those from a place on.
-pub fn seek_member(text: &[u8], from: Mark, table: Table, slot: u8) -> Sought
-    ensures { λ r. ⌜ told (now (text .entry)) r ≡ seek table slot (tokensFrom (drop (from .at) (now (text .entry))) (from .phase) (from .stack)) 0 ⌝ }
+pub(crate) fn seek_member(text: &[u8], from: Mark, table: Table, slot: u8) -> Sought
+    ensures { λ r. ⌜ told (now (text .entry)) r ≡ seek table slot (tokensAt (now (text .entry)) from) 0 ⌝ }
 {
-    let phase = from.phase;
-    let stack = from.stack;
-    let mut place = State { phase, stack };
-    let mut at = from.at;
+    let mut here = from;
     let mut depth: usize = 0;
-    while at < text.len() {
-        let byte = text[at];
-        let now = place.phase;
-        let event = event_of(now, byte);
-        match seek_turn(table, slot, depth, event, text, at + 1) {
-            Moved::On(further) => {
-                match step(place, byte) {
-                    Turn::Next(next) => {
-                        place = next;
-                        depth = further;
-                        at += 1;
-                    }
-                    Turn::Fails => {
-                        return Sought::None;
-                    }
-                }
-            }
-            Moved::Gone => {
+    loop {
+        match next_token(text, here) {
+            Met::None => {
                 return Sought::None;
             }
-            Moved::Here(kind) => {
-                match step(place, byte) {
-                    Turn::Next(next) => {
-                        let phase = next.phase;
-                        let stack = next.stack;
-                        return Sought::Found(kind, Mark { at: at + 1, phase, stack });
+            Met::Token(event, at, behind) => {
+                match seek_turn(table, slot, depth, event, text, at + 1) {
+                    Moved::On(further) => {
+                        here = behind;
+                        depth = further;
                     }
-                    Turn::Fails => {
-                        return Sought::Found(kind, Mark { at: text.len(), phase: Phase::Value, stack: 1 });
+                    Moved::Gone => {
+                        return Sought::None;
+                    }
+                    Moved::Here(kind) => {
+                        return Sought::Found(kind, behind);
                     }
                 }
             }
         }
     }
-    Sought::None
 }

@@ -1,7 +1,8 @@
 -- The tokens of a text from a place on.
 use Prim.Native.Nat.{ℕ, _+_, _-_, _≤_, _<_}
 use mathlib.Core.Bool.{Bool, true, false}
-use mathlib.Core.List.{List, []}
+use mathlib.Core.Path.{_≡_}
+use mathlib.Core.List.{List, [], _∷_}
 use lib.ListN.{length, drop}
 use Rattle.json.specs.machinery.Tokens.{Token, mark, tokensFrom}
 use Rattle.json.specs.declared.events.Event.{Event}
@@ -32,7 +33,7 @@ abbrev pub metTokens : List ℕ → Met → List Token
 metTokens t (M.Token e at m) = mark e (length t - at) (drop (at + 1) t) (tokensAt t m)
 metTokens t M.None = []
 
--- a token stands no earlier than asked for, and the walk goes on behind it
+-- a token stands no earlier than asked for, the walk goes on behind it, and it is one
 abbrev pub Ahead : ℕ → ℕ → Met → Type 0
-Ahead from size (M.Token e at m) = (from ≤ at) × (at < m .at) × (m .at ≤ size)
+Ahead from size (M.Token e at m) = (from ≤ at) × (at < m .at) × (m .at ≤ size) × (isNothing e ≡ false)
 Ahead from size M.None = Unit {0}

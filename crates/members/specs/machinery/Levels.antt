@@ -1,4 +1,4 @@
--- 21 and 22, by one pass over the tokens.
+-- The first 21 or 22 of a document, by one pass over its tokens: what a token leads to, level by level.
 use Prim.Native.Nat.{ℕ, _-_}
 use mathlib.Core.Bool.{Bool, true, false}
 use mathlib.Core.List.{List, [], _∷_}
@@ -10,7 +10,7 @@ use Rattle.json.specs.Texts.{ascii}
 use Rattle.json.specs.declared.events.Event.{Event}
 use Rattle.json.specs.declared.events.Event.the-variants as E
 use Rattle.json.specs.machinery.Tokens.Token.{name, text, other, open-list, close-list, open-object, close-object}
-use Rattle.members.specs.Members.{Verdict, versionText, topKind, rowKind, awsKind, operatorKind, keyKind, rowSlot, isSeen, add, isBad, awsWhole, rowWhole, topWhole}
+use Rattle.members.specs.Members.{Verdict, versionText, topKind, rowKind, awsKind, operatorKind, keyKind, rowSlot, add, isBad, awsWhole, rowWhole, topWhole}
 use Rattle.members.specs.Members.Verdict.{fine, refused}
 use Rattle.members.specs.declared.state.Level.{Level}
 use Rattle.members.specs.declared.state.Level.the-variants as L
@@ -20,6 +20,7 @@ use Rattle.members.specs.declared.checking.Checked.the-variants as C
 use Rattle.members.specs.declared.state.Turn.{Turn}
 use Rattle.members.specs.declared.state.Turn.the-variants as T
 
+-- where a token stands
 abbrev pub placeOf : Token → ℕ
 placeOf (name n bs) = n
 placeOf (text n bs) = n

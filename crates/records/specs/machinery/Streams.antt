@@ -4,17 +4,16 @@ use mathlib.Core.List.{List, [], _∷_}
 use Rattle.json.specs.machinery.Tokens.{Token}
 use Rattle.json.specs.machinery.Tokens.Token.{name, text, other, open-list, close-list, open-object, close-object}
 use Rattle.stored.specs.Operators.{rowOf}
-use Rattle.stored.specs.Entries.Entry.{start, statement, column, condition, network, value, end}
+use Rattle.stored.specs.Entries.Entry.{start, column, condition, end}
 use Rattle.stored.specs.declared.items.Operator.{Operator}
 use Rattle.stored.specs.declared.items.Key.{Key}
 use Rattle.stored.specs.declared.items.Sort.{Sort}
 use Rattle.stored.specs.declared.items.Sort.the-variants as S
 use Rattle.members.specs.Members.{operatorKind, keyKind}
-use Rattle.members.specs.machinery.Levels.{placeOf}
 use Rattle.records.specs.Documents.{operatorAt, keyAt, columnAt}
 use Rattle.records.specs.Wishes.{Wish, stringWish, effectWish}
 use Rattle.records.specs.Wishes.Wish.{made, strange, empty, unread}
-use Rattle.records.specs.machinery.Walkers.{Sought, seek}
+use Rattle.records.specs.machinery.Walkers.{Sought, nextPlace, seek}
 use Rattle.records.specs.declared.walking.Table.the-variants as W
 
 -- no list is open; one that began at a place is still empty; one has a string
@@ -52,6 +51,8 @@ pub data Spot : Type 0 where
   operator : Operator → Spot
   keys : Operator → Spot
   key : Operator → Key → Spot
+  -- the condition is wished for, its value not yet
+  value : Operator → Spot
   emptyList : Operator → ℕ → Spot
   filledList : Operator → Spot
 
@@ -62,6 +63,7 @@ module _ (r : List Wish) where
   onName go x (operator o) = r
   onName go x (keys o) = go (key o (keyAt (keyKind x)))
   onName go x (key o k) = r
+  onName go x (value o) = r
   onName go x (emptyList o n) = r
   onName go x (filledList o) = r
 
@@ -71,6 +73,7 @@ module _ (r : List Wish) where
   onText go n x (operator o) = r
   onText go n x (keys o) = r
   onText go n x (key o k) = made n (condition o k) ∷ stringWish (rowOf o .sort) n x ∷ go (keys o)
+  onText go n x (value o) = stringWish (rowOf o .sort) n x ∷ go (keys o)
   onText go n x (emptyList o m) = stringWish (rowOf o .sort) n x ∷ go (filledList o)
   onText go n x (filledList o) = stringWish (rowOf o .sort) n x ∷ go (filledList o)
 
@@ -80,6 +83,7 @@ module _ (r : List Wish) where
   onList go n (operator o) = r
   onList go n (keys o) = r
   onList go n (key o k) = made n (condition o k) ∷ go (emptyList o n)
+  onList go n (value o) = go (emptyList o n)
   onList go n (emptyList o m) = r
   onList go n (filledList o) = r
 
@@ -89,6 +93,7 @@ module _ (r : List Wish) where
   onListEnd go (operator o) = r
   onListEnd go (keys o) = r
   onListEnd go (key o k) = r
+  onListEnd go (value o) = r
   onListEnd go (emptyList o n) = empty n ∷ go (keys o)
   onListEnd go (filledList o) = go (keys o)
 
@@ -98,6 +103,7 @@ module _ (r : List Wish) where
   onObject go (operator o) = go (keys o)
   onObject go (keys o) = r
   onObject go (key o k) = r
+  onObject go (value o) = r
   onObject go (emptyList o n) = r
   onObject go (filledList o) = r
 
@@ -107,6 +113,7 @@ module _ (r : List Wish) where
   onObjectEnd go (operator o) = r
   onObjectEnd go (keys o) = go operators
   onObjectEnd go (key o k) = r
+  onObjectEnd go (value o) = r
   onObjectEnd go (emptyList o n) = r
   onObjectEnd go (filledList o) = r
 
@@ -119,11 +126,6 @@ module _ (r : List Wish) where
   conditionsFrom (close-list n ∷ ts) p = onListEnd (conditionsFrom ts) p
   conditionsFrom (open-object n ∷ ts) p = onObject (conditionsFrom ts) p
   conditionsFrom (close-object n ∷ ts) p = onObjectEnd (conditionsFrom ts) p
-
--- the place of the value that comes next
-abbrev pub nextPlace : List Token → ℕ
-nextPlace [] = 0
-nextPlace (x ∷ ts) = placeOf x
 
 abbrev pub effectOn : List Token → Wish
 effectOn [] = effectWish 0 []

@@ -1,21 +1,26 @@
--- Walks over the tokens of a document.
+-- Walks over the tokens of a document: to the value of a member.
 use Prim.Native.Nat.{ℕ, zero, suc, _+_, _-_}
 use mathlib.Core.Bool.{Bool, true, false, _&&_}
 use mathlib.Core.List.{List, [], _∷_}
 use lib.Dec.{eqb}
-use lib.ListN.{drop}
 use Rattle.json.specs.Choice.{pick}
-use Rattle.json.specs.machinery.Tokens.{Token, tokensFrom}
+use Rattle.json.specs.machinery.Tokens.{Token}
+use Rattle.json.specs.machinery.Marks.{tokensAt}
 use Rattle.json.specs.declared.events.Event.{Event}
 use Rattle.json.specs.declared.events.Event.the-variants as E
 use Rattle.members.specs.Members.{topKind, rowKind, rowSlot}
-use Rattle.members.specs.machinery.Levels.{kindOf, said}
+use Rattle.members.specs.machinery.Levels.{placeOf, kindOf, said}
 use Rattle.records.specs.declared.walking.Table.{Table}
 use Rattle.records.specs.declared.walking.Table.the-variants as W
 use Rattle.records.specs.declared.walking.Moved.{Moved}
 use Rattle.records.specs.declared.walking.Moved.the-variants as M
 use Rattle.records.specs.declared.walking.Sought as Code
 use Rattle.records.specs.declared.walking.Sought.the-variants as S
+
+-- the place of the value that comes next
+abbrev pub nextPlace : List Token → ℕ
+nextPlace [] = 0
+nextPlace (x ∷ ts) = placeOf x
 
 abbrev pub kindIn : Table → List ℕ → ℕ
 kindIn W.Top x = topKind x
@@ -54,4 +59,4 @@ seek w slot (x ∷ ts) d = afterMove (seek w slot ts) ts (seekTurn w slot d (kin
 -- what a place in a text says
 abbrev pub told : List ℕ → Code.Sought → Sought
 told t S.None = none
-told t (S.Found k m) = found k (tokensFrom (drop (m .at) t) (m .phase) (m .stack))
+told t (S.Found k m) = found k (tokensAt t m)

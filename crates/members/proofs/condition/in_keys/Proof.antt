@@ -1,4 +1,4 @@
-use mathlib.Core.Path.{sym, _∙_}
+-- `members::condition::in_keys` meets its contract: the arms are those of `inKeys`.
 use borrow.Author.Needs.{needs}
 use Rattle.members.proofs.condition.in_keys.Statement.{statement}
 use Rattle.members.proofs.condition.in_keys.Tie as tie

@@ -1,4 +1,4 @@
-use mathlib.Core.Path.{sym, _∙_}
+-- `members::condition::in_operators` meets its contract: the arms are those of `inOperators`.
 use borrow.Author.Needs.{needs}
 use Rattle.members.proofs.condition.in_operators.Statement.{statement}
 use Rattle.members.proofs.condition.in_operators.Tie as tie

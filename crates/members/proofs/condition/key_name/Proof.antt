@@ -1,3 +1,4 @@
+-- `members::condition::key_name` meets its contract: the test is that of `inKeys` at a name.
 use mathlib.Core.Path.{sym, _∙_}
 use borrow.Author.Needs.{needs}
 use Rattle.members.proofs.condition.key_name.Statement.{statement}

@@ -1,3 +1,4 @@
+-- `members::condition::operator_name` meets its contract: the test is that of `inOperators` at a name.
 use mathlib.Core.Path.{sym, _∙_}
 use borrow.Author.Needs.{needs}
 use Rattle.members.proofs.condition.operator_name.Statement.{statement}

@@ -1,4 +1,4 @@
-use mathlib.Core.Path.{sym, _∙_}
+-- `members::document::in_rows` meets its contract: the arms are those of `inRows`.
 use borrow.Author.Needs.{needs}
 use Rattle.members.proofs.document.in_rows.Statement.{statement}
 use Rattle.members.proofs.document.in_rows.Tie as tie

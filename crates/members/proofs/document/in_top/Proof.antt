@@ -1,4 +1,4 @@
-use mathlib.Core.Path.{sym, _∙_}
+-- `members::document::in_top` meets its contract: the arms are those of `inTop`.
 use borrow.Author.Needs.{needs}
 use Rattle.members.proofs.document.in_top.Statement.{statement}
 use Rattle.members.proofs.document.in_top.Tie as tie

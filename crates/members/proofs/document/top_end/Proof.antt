@@ -1,3 +1,4 @@
+-- `members::document::top_end` meets its contract: the test is that of `inTop` at the closing brace.
 use mathlib.Core.Path.{sym, _∙_}
 use borrow.Author.Needs.{needs}
 use Rattle.members.proofs.document.top_end.Statement.{statement}

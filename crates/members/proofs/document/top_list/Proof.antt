@@ -1,4 +1,4 @@
-use mathlib.Core.Path.{sym, _∙_}
+-- `members::document::top_list` meets its contract: the test is that of `inTop` at a list.
 use borrow.Author.Tests.{eq-eqb, ne-eqb}
 use borrow.Author.Needs.{needs}
 use Rattle.members.proofs.document.top_list.Statement.{statement}

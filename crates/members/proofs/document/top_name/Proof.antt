@@ -1,3 +1,4 @@
+-- `members::document::top_name` meets its contract: the test is that of `inTop` at a name.
 use mathlib.Core.Path.{sym, _∙_}
 use borrow.Author.Needs.{needs}
 use Rattle.members.proofs.document.top_name.Statement.{statement}

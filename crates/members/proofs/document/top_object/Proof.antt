@@ -1,4 +1,4 @@
-use mathlib.Core.Path.{sym, _∙_}
+-- `members::document::top_object` meets its contract: the test is that of `inTop` at an object.
 use borrow.Author.Tests.{eq-eqb, ne-eqb}
 use borrow.Author.Needs.{needs}
 use Rattle.members.proofs.document.top_object.Statement.{statement}

@@ -1,3 +1,4 @@
+-- `members::document::top_text` meets its contract: the tests come in the order of `inTop` at a string.
 use Rattle.members.specs.Members.{versionText}
 use mathlib.Core.Path.{sym, _∙_}
 use borrow.Author.Tests.{eq-eqb, ne-eqb}

@@ -1,3 +1,4 @@
+-- `members::document::top_whole` meets its contract: the two marks are those of `topWhole`.
 use borrow.Author.Needs.{needs}
 use Rattle.members.proofs.document.top_whole.Statement.{statement}
 use Rattle.members.proofs.document.top_whole.Tie as tie

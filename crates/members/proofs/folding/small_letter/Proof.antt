@@ -1,4 +1,4 @@
-use mathlib.Core.Path.{sym, _∙_}
+-- `members::folding::small_letter` meets its contract: the two tests are those of `small`.
 use borrow.Author.Tests.{le-leb, lt-leb}
 use borrow.Author.Needs.{needs}
 use Rattle.members.proofs.folding.small_letter.Statement.{statement}

@@ -66,8 +66,8 @@ loop-again c =
     let n = c .before .before .before .before .before .byte .given .0 .1 .0 in (
       search needs,
       ap (λ (s : List ℕ). sameBytes (map small (contentOf s)) (drop (Prim.Native.Nat._+_ (l .i) 1) name)) (c .advance .ensures)
-      ∙ sym (goes-on (drop (l .at) text) name (l .i) a n (c .before .before .before .before .before .before .before .before .loop-test .taken) (sym (c .before .before .before .before .before .before .before .piece-at .ensures) ∙ c .before .before .before .before .before .byte .given .1) (sym (c .before .before .before .small-letter .ensures) ∙ c .before .if1 .taken))
-      ∙ l .inv .1,
+          ∙ sym (goes-on (drop (l .at) text) name (l .i) a n (c .before .before .before .before .before .before .before .before .loop-test .taken) (sym (c .before .before .before .before .before .before .before .piece-at .ensures) ∙ c .before .before .before .before .before .byte .given .1) (sym (c .before .before .before .small-letter .ensures) ∙ c .before .if1 .taken))
+          ∙ l .inv .1,
     )
 
 returns-2 : tie.Need-returns-2 Inv-loop μ-loop

@@ -1,3 +1,4 @@
+-- `members::levels::after_token` meets its contract: the arms are those of `turnIn`; three levels look at no bytes.
 use mathlib.Core.Path.{ap}
 use Rattle.members.specs.declared.state.Level.{Level}
 use Rattle.members.specs.machinery.Levels.{turnIn}

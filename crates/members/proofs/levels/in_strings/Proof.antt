@@ -1,4 +1,4 @@
-use mathlib.Core.Path.{sym, _∙_}
+-- `members::levels::in_strings` meets its contract: the arms are those of `inStrings`.
 use borrow.Author.Needs.{needs}
 use Rattle.members.proofs.levels.in_strings.Statement.{statement}
 use Rattle.members.proofs.levels.in_strings.Tie as tie

@@ -1,4 +1,4 @@
-use mathlib.Core.Path.{sym, _∙_}
+-- `members::levels::outside` meets its contract: the arms are those of `outside`.
 use borrow.Author.Needs.{needs}
 use Rattle.members.proofs.levels.outside.Statement.{statement}
 use Rattle.members.proofs.levels.outside.Tie as tie

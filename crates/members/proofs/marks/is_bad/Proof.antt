@@ -1,3 +1,4 @@
+-- `members::marks::is_bad` meets its contract: the two tests are those of `isBad`.
 use borrow.Author.Needs.{needs}
 use Rattle.members.proofs.marks.is_bad.Statement.{statement}
 use Rattle.members.proofs.marks.is_bad.Tie as tie

@@ -1,3 +1,4 @@
+-- `members::marks::is_seen` meets its contract: a shift is a division, and the lowest bit is left.
 use mathlib.Core.Path.{refl}
 use Rattle.members.specs.Members.{isSeen}
 use borrow.Author.Needs.{needs}

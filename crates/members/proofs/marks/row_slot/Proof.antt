@@ -1,4 +1,4 @@
-use mathlib.Core.Path.{sym, _∙_}
+-- `members::marks::row_slot` meets its contract: the tests come in the order of `rowSlot`.
 use borrow.Author.Tests.{le-leb, lt-leb}
 use borrow.Author.Needs.{needs}
 use Rattle.members.proofs.marks.row_slot.Statement.{statement}

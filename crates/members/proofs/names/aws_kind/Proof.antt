@@ -1,3 +1,4 @@
+-- `members::names::aws_kind` meets its contract: the one name is that of `awsNames`.
 use Rattle.members.specs.Members.{awsKind}
 use mathlib.Core.Path.{sym, _∙_}
 use borrow.Author.Needs.{needs}

@@ -1,3 +1,4 @@
+-- `members::names::key_kind` meets its contract: the names are asked for in the order of `keyNames`, in small letters.
 use Rattle.members.specs.Members.{keyKind, keyNames}
 use mathlib.Core.Path.{sym, _∙_}
 use borrow.Author.Needs.{needs}

@@ -1,3 +1,4 @@
+-- `members::names::operator_kind` meets its contract: the names are asked for in the order of `operatorNames`.
 use Rattle.members.specs.Members.{operatorKind, operatorNames}
 use mathlib.Core.Path.{sym, _∙_}
 use borrow.Author.Needs.{needs}

@@ -1,3 +1,4 @@
+-- `members::names::row_kind` meets its contract: the names are asked for in the order of `rowNames`.
 use Rattle.members.specs.Members.{rowKind, rowNames}
 use mathlib.Core.Path.{sym, _∙_}
 use borrow.Author.Needs.{needs}

@@ -1,3 +1,4 @@
+-- `members::names::top_kind` meets its contract: the names are asked for in the order of `topNames`.
 use Rattle.members.specs.Members.{topKind, topNames}
 use mathlib.Core.Path.{sym, _∙_}
 use borrow.Author.Needs.{needs}

@@ -1,3 +1,4 @@
+-- `members::principal::aws_end` meets its contract: the test is that of `inPrincipals` at the closing brace.
 use mathlib.Core.Path.{sym, _∙_}
 use borrow.Author.Needs.{needs}
 use Rattle.members.proofs.principal.aws_end.Statement.{statement}

@@ -1,4 +1,4 @@
-use mathlib.Core.Path.{sym, _∙_}
+-- `members::principal::in_principals` meets its contract: the arms are those of `inPrincipals`.
 use borrow.Author.Needs.{needs}
 use Rattle.members.proofs.principal.in_principals.Statement.{statement}
 use Rattle.members.proofs.principal.in_principals.Tie as tie

@@ -1,4 +1,4 @@
-use mathlib.Core.Path.{sym, _∙_}
+-- `members::statement::in_row` meets its contract: the arms are those of `inRow`.
 use borrow.Author.Needs.{needs}
 use Rattle.members.proofs.statement.in_row.Statement.{statement}
 use Rattle.members.proofs.statement.in_row.Tie as tie

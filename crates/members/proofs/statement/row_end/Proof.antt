@@ -1,3 +1,4 @@
+-- `members::statement::row_end` meets its contract: the test is that of `inRow` at the closing brace.
 use mathlib.Core.Path.{sym, _∙_}
 use borrow.Author.Needs.{needs}
 use Rattle.members.proofs.statement.row_end.Statement.{statement}

@@ -1,4 +1,4 @@
-use mathlib.Core.Path.{sym, _∙_}
+-- `members::statement::row_list` meets its contract: the tests come in the order of `inRow` at a list.
 use borrow.Author.Tests.{le-leb, lt-leb}
 use borrow.Author.Needs.{needs}
 use Rattle.members.proofs.statement.row_list.Statement.{statement}

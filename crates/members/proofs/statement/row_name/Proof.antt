@@ -1,3 +1,4 @@
+-- `members::statement::row_name` meets its contract: the test is that of `inRow` at a name.
 use mathlib.Core.Path.{sym, _∙_}
 use borrow.Author.Needs.{needs}
 use Rattle.members.proofs.statement.row_name.Statement.{statement}

@@ -1,4 +1,4 @@
-use mathlib.Core.Path.{sym, _∙_}
+-- `members::statement::row_object` meets its contract: the tests come in the order of `inRow` at an object.
 use borrow.Author.Tests.{le-leb, lt-leb}
 use borrow.Author.Needs.{needs}
 use Rattle.members.proofs.statement.row_object.Statement.{statement}

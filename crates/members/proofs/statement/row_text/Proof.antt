@@ -1,3 +1,4 @@
+-- `members::statement::row_text` meets its contract: the tests come in the order of `inRow` at a string.
 use mathlib.Core.Path.{sym, _∙_}
 use borrow.Author.Tests.{le-leb, lt-leb}
 use borrow.Author.Needs.{needs}

@@ -1,3 +1,4 @@
+-- `members::statement::row_whole` meets its contract: the four marks are those of `rowWhole`.
 use borrow.Author.Needs.{needs}
 use Rattle.members.proofs.statement.row_whole.Statement.{statement}
 use Rattle.members.proofs.statement.row_whole.Tie as tie
