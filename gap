@@ -1,10 +1,9 @@
 #!/usr/bin/env bash
 # Compares two access tables and prints what the first allows and the second does not: builds the program `gaps` where that is
-# needed, and runs it. What this script says itself goes to standard error; standard output has the program's lines alone.
+# needed, and for JSON `policies`, and runs them. What this script says itself goes to standard error; standard output has the programs'
+# lines alone, and for a policy that is refused a line of the same form.
 set -u
 here=$(dirname "$(readlink -f "${BASH_SOURCE[0]}")") || exit 2
-program=$here/target/bin/gaps
-built=$here/target/gap-built
 
 usage() {
     cat <<'TEXT'
@@ -16,10 +15,18 @@ line: number, p= principal, a= action, r= resource, and where the request has th
 k2= aws:SourceVpce, k3= aws:Referer, ip= aws:SourceIp. Or it prints `refused`, the number of the refusal, the table (1, 2, or 0
 for the comparison) and the place. docs/RULES.md, 7, has the numbers.
 
-A file whose name ends in .hex is hex text: two digits a byte, spaces where you like, and # begins a comment. Any other file is
-taken as it is. The status is 0 when the program has answered, a refusal included, and 2 when it was not run.
+A file whose name ends in .json is a policy in the public JSON form (docs/RULES.md, 11); where it is refused, the place is a byte of
+that text, and standard error has the line and column. A file whose name ends in .hex is hex text: two digits a byte, spaces where you
+like, and # begins a comment. Any other file is a table as it is stored. The two may be of different sorts. The status is 0 when the
+program has answered, a refusal included, and 2 when it was not run.
 
-An example:
+Two examples:
+
+    $ ./gap examples/thirteenth-clock/first.json examples/thirteenth-clock/second.json
+    gaps 1
+    0 p=lab a=COMPARE r=clock-13
+
+The first policy lets the laboratory compare with thirteen clocks, the second with twelve of them. What is lost has a name.
 
     $ ./gap examples/sample/first.hex examples/sample/second.hex
     gaps 1
@@ -74,19 +81,20 @@ note_first() { # FILE NAME
         }' || echo "gap: note: $2 does not end with its first record 05, so the first table that the program sees is not just this file" >&2
 }
 
-# Proves and builds the program, unless that was done since its source last changed.
-build() {
-    [ -x "$program" ] && [ -e "$built" ] && [ -z "$(find "$here/crates" "$here/crates.txt" -newer "$built" -print | head -n 1)" ] && return
+# Proves and builds a program, unless that was done since its source last changed.
+build() { # PROGRAM
+    local built=$here/target/$1-built
+    [ -x "$here/target/bin/$1" ] && [ -e "$built" ] && [ -z "$(find "$here/crates" "$here/crates.txt" -newer "$built" -print | head -n 1)" ] && return
     command -v rt >/dev/null 2>&1 || fail "the Rattle toolchain is not installed: its command rt is not on the PATH"
     mkdir -p "$here/target" || fail "there is no folder $here/target"
-    echo "gap: proving and building the program (rt check gaps); the first time this takes five to ten minutes" >&2
-    (cd "$here" && set -o pipefail && rt check gaps 2>&1 | tee target/gap.log | grep --line-buffered '^rt:' >&2) ||
-        fail "the program was not built; $here/target/gap.log says why"
+    echo "gap: proving and building the program $1 (rt check $1); the first time this takes five to ten minutes" >&2
+    (cd "$here" && set -o pipefail && rt check "$1" 2>&1 | tee "target/$1.log" | grep --line-buffered '^rt:' >&2) ||
+        fail "the program $1 was not built; $here/target/$1.log says why"
     touch "$built"
 }
 
-# Runs the program as the toolchain does: under its own loader and C library, and on a machine that is not x86-64 under its own emulator.
-run() {
+# Runs a program as the toolchain does: under its own loader and C library, and on a machine that is not x86-64 under its own emulator.
+run() { # PROGRAM
     local home tools loader emulator word
     command -v rt >/dev/null 2>&1 || [ -n "${RATTLE_HOME:-}" ] || fail "the Rattle toolchain is not installed: its command rt is not on the PATH"
     home=${RATTLE_HOME:-$(dirname "$(dirname "$(readlink -f "$(command -v rt)")")")}
@@ -96,7 +104,49 @@ run() {
     emulator=$tools/bin/qemu-x86_64
     [ -x "$emulator" ] || emulator=
     for word in $(env | sed -n 's/^\(QEMU_[A-Za-z0-9_]*\)=.*/\1/p'); do unset "$word"; done
-    ${emulator:+"$emulator"} "$loader" --library-path "$tools/lib" "$program" || fail "the program ended with status $?"
+    ${emulator:+"$emulator"} "$loader" --library-path "$tools/lib" "$here/target/bin/$1" || fail "the program $1 ended with status $?"
+}
+
+# What a refusal of a policy means, in words.
+meaning_of() { # NUMBER
+    case $1 in
+    20) echo "the text is not JSON from here on, or has an escape or a depth that is not taken" ;;
+    21) echo "this member, operator or key is unknown, or there for the second time" ;;
+    22) echo "a member is missing, or this value is of the wrong type" ;;
+    3) echo "Effect is Allow or Deny" ;;
+    5) echo "a list needs a string" ;;
+    6) echo "too many (32 statements, 64 strings and 4 conditions of a statement), or a string of no bytes or over 128" ;;
+    7) echo "a value has only printable bytes, and no space" ;;
+    8) echo "this is not allowed here: a wildcard in a principal, a variable, no network, or a key of another sort than its operator" ;;
+    1) echo "the table would have over 16,384 bytes, or the text is longer than this program takes" ;;
+    *) echo "docs/RULES.md, 7.4, has the numbers" ;;
+    esac
+}
+
+# Says where a policy is refused: file, line and column, and in words why.
+say_where() { # FILE NUMBER PLACE
+    local line column
+    line=$(($(head -c "$3" "$1" | LC_ALL=C tr -dc '\n' | wc -c) + 1))
+    column=$(($(head -c "$3" "$1" | LC_ALL=C tail -n 1 | wc -c) + 1))
+    [ "$3" -gt 0 ] && [ "$(head -c "$3" "$1" | tail -c 1 | od -An -tu1 | tr -d ' ')" = 10 ] && column=1
+    echo "gap: $1, line $line, column $column: refusal $2: $(meaning_of "$2")" >&2
+}
+
+# A file's table. A policy that is refused ends the comparison, with the line that the comparison would print for a table.
+table_of() { # FILE WHICH TABLE
+    case $1 in *.json) ;; *) bytes_of "$1" >"$3" || exit 2; return ;; esac
+    bytes_of "$1" >"$3.json"
+    build policies
+    run policies <"$3.json" >"$3" || exit 2
+    case $(head -c 8 "$3" | LC_ALL=C tr -d '\000') in
+    "refused "*)
+        local word number place
+        read -r word number place <"$3"
+        echo "$word $number $2 $place"
+        say_where "$1" "$number" "$place"
+        exit 0
+        ;;
+    esac
 }
 
 case $# in
@@ -105,8 +155,8 @@ case $# in
         usage
         exit
     fi
-    build
-    run
+    build gaps
+    run gaps
     ;;
 1)
     case $1 in -h | --help) usage; exit ;; esac
@@ -116,12 +166,12 @@ case $# in
 2)
     room=$(mktemp -d) || exit 2
     trap 'rm -rf "$room"' EXIT
-    bytes_of "$1" >"$room/first"
-    bytes_of "$2" >"$room/second"
+    table_of "$1" 1 "$room/first"
+    table_of "$2" 2 "$room/second"
     cat "$room/first" "$room/second" >"$room/both"
-    build
+    build gaps
     note_first "$room/first" "$1"
-    run <"$room/both"
+    run gaps <"$room/both"
     ;;
 *)
     usage >&2

@@ -1,5 +1,4 @@
 -- Laws behind the gap program's contracts.
 pub mod Splitting
-pub mod Laying
-pub mod Decimal
+pub mod ShortValues
 pub mod Promises

@@ -9,7 +9,9 @@ use Rattle.comparing.specs.Compared.{requestShown, Shown}
 use Rattle.comparing.specs.declared.answers.Shape.{Shape}
 use Rattle.comparing.specs.declared.answers.Showing.the-variants as S
 use Rattle.gaps.specs.Split.{passedAt, firstEnd}
-use Rattle.gaps.specs.Lines.{ascii, decimalOf, dotted, countLine, refusalLine, gapLine}
+use Rattle.json.specs.Texts.{ascii}
+use Rattle.printing.specs.Decimals.{decimalOf}
+use Rattle.gaps.specs.Lines.{dotted, countLine, refusalLine, gapLine}
 use Rattle.comparing.proofs.Promises.{shown-means}
 
 -- RULES 8.2. The request that is read off an answer for gap k and the value buffer, whose line is printed, is gap k.

@@ -1,32 +1,9 @@
 -- The lines that the gap program prints, each with its line feed (RULES 8).
-use Prim.Native.Nat.{ℕ, zero, suc, _+_, _/_, _%_, _≤_}
-use Prim.Native.Char.{code}
-use Prim.Native.String.{String, [] as empty, _∷_ as _then_}
-use mathlib.Core.Path.{_≡_}
+use Prim.Native.Nat.{ℕ, _/_, _%_}
 use mathlib.Core.List.{List, [], _∷_, _++_}
-use lib.Dec.{ltb}
-use lib.ListN.{length}
-use lib.Seq.{sets}
-use Rattle.stored.specs.Choice.{pick}
+use Rattle.json.specs.Texts.{ascii}
+use Rattle.printing.specs.Decimals.{decimalOf}
 use Rattle.judging.specs.Requests.{Value, absent, text, number, columnOf}
-
--- the bytes of a text
-abbrev pub ascii : String → List ℕ
-ascii empty = []
-ascii (c then s) = code c ∷ ascii s
-
--- the byte of a digit
-abbrev pub digit : ℕ → ℕ
-digit d = 48 + d
-
--- a number in decimal with no zero in front, as long as it has no more digits than the first number says
-abbrev pub decimalDigits : ℕ → ℕ → List ℕ
-decimalDigits zero n = []
-decimalDigits (suc most) n = pick (ltb n 10) (digit n ∷ []) (decimalDigits most (n / 10) ++ (digit (n % 10) ∷ []))
-
--- a number in decimal: every number below 2^64 has at most 20 digits
-unfoldable pub decimalOf : ℕ → List ℕ
-decimalOf n = decimalDigits 20 n
 
 -- an address in dotted decimal
 unfoldable pub dotted : ℕ → List ℕ
@@ -70,9 +47,3 @@ keysShown request =
 unfoldable pub gapLine : ℕ → List Value → List ℕ
 gapLine k request =
     decimalOf k ++ neededShown request ++ keysShown request ++ shown (ascii " ip=") (columnOf request 7) ++ ascii "\n"
-
--- bytes are laid down at a place, and no other byte changes; the answer is the place behind them, at most so many bytes on
-pub record Laid (before : List ℕ) (at : ℕ) (bytes : List ℕ) (most : ℕ) (after : List ℕ) (behind : ℕ) : Type 0 where
-  pub lies : after ≡ sets before at bytes
-  pub ends : behind ≡ at + length bytes
-  pub within : behind ≤ at + most

@@ -1,8 +1,9 @@
 -- Answers as numbers (RULES 9). Below 2 ^ 32 is the answer itself; a refusal is table * 2 ^ 48 + number * 2 ^ 32 + place; a shown gap has
--- bit 63.
+-- bit 63. A policy's refusal is number * 2 ^ 56 + place.
 use Prim.Native.Nat.{ℕ, _+_, _*_, _/_, _%_, _^_}
 use mathlib.Core.Bool.{Bool, true, false}
-use lib.Dec.{eqb}
+use lib.Dec.{eqb, ltb}
+use Rattle.stored.specs.Choice.{pick}
 use Rattle.judging.specs.declared.request.Present.{Present}
 use Rattle.judging.specs.declared.judge.Judgement.{Judgement}
 use Rattle.judging.specs.declared.judge.Judgement.the-variants as J
@@ -11,6 +12,8 @@ use Rattle.comparing.specs.declared.answers.Counting.the-variants as C
 use Rattle.comparing.specs.declared.answers.Shape.{Shape}
 use Rattle.comparing.specs.declared.answers.Showing.{Showing}
 use Rattle.comparing.specs.declared.answers.Showing.the-variants as S
+use Rattle.policy.specs.declared.reader.JsonAnswer.{JsonAnswer}
+use Rattle.policy.specs.declared.reader.JsonAnswer.the-variants as R
 
 -- bit i of a number
 abbrev pub isSet : ℕ → ℕ → Bool
@@ -63,3 +66,12 @@ shapeCode shape = 0x8000000000000000 + flagsOf (shape .present) * 0x100000000 + 
 abbrev pub showingCode : Showing → ℕ
 showingCode (S.Shown shape) = shapeCode shape
 showingCode (S.Refused n table place) = refusalCode n table place
+
+-- the number and the place of a policy's refusal; a place of 2 ^ 56 - 1 or more is given as 2 ^ 56 - 1
+abbrev pub jsonRefusalCode : ℕ → ℕ → ℕ
+jsonRefusalCode number place = number * 0x100000000000000 + pick (ltb place 0xFFFFFFFFFFFFFF) place 0xFFFFFFFFFFFFFF
+
+-- the bytes written
+abbrev pub jsonCode : JsonAnswer → ℕ
+jsonCode (R.Written size) = size
+jsonCode (R.Refused number place) = jsonRefusalCode number place

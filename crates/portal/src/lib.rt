@@ -1,5 +1,5 @@
-// The entry points for C and Rust: numbers and byte slices in, one number out. They are thin: what they answer is judging's and
-// comparing's answer, coded as a number.
+// The entry points for C and Rust: numbers and byte slices in, one number out. They are thin: what they answer is judging's,
+// comparing's and policy's answer, coded as a number.
 use comparing::answers::Counting;
 use comparing::answers::Shape;
 use comparing::answers::Showing;
@@ -8,15 +8,20 @@ use comparing::compare::gap_count;
 use judging::judge::Judgement;
 use judging::judge::judge;
 use judging::request::Present;
+use policy::reader::JsonAnswer;
+use policy::reader::read_json;
 ghost use mathlib.Core.Path.{_≡_};
 ghost use Prim.Native.Nat.{_<_};
 ghost use Rattle.judging.specs.Requests.{requestOf};
 ghost use Rattle.judging.specs.Judging.{judgement};
-ghost use Rattle.portal.specs.Codes.{isSet, presentOf, flagOf, flagsOf, refusalCode, judgementCode, countingCode, shapeCode, showingCode};
-ghost use Rattle.portal.specs.Answers.{Counts, Shows};
+ghost use Rattle.portal.specs.Codes.{isSet, presentOf, flagOf, flagsOf, refusalCode, judgementCode, countingCode, shapeCode, showingCode, jsonRefusalCode, jsonCode};
+ghost use Rattle.portal.specs.Answers.{Counts, Shows, ReadsJson};
 
 // The words of the workspace that a comparison brings.
 const WORKSPACE: usize = 8192;
+
+// The last place that the code of a policy's refusal has room for.
+const MOST_PLACE: u64 = 0xFFFFFFFFFFFFFF;
 
 // Bit i of the flags.
 fn is_set(flags: u32, i: u32) -> bool
@@ -102,6 +107,26 @@ fn showing_code(answer: Showing) -> u64
     }
 }
 
+// A refusal of a policy as a number. A place that has no room is given as the last that has.
+fn json_refusal_code(number: u8, place: usize) -> u64
+    ensures { λ r. ⌜ r ≡ jsonRefusalCode number place ⌝ }
+{
+    let at = place as u64;
+    if at < MOST_PLACE {
+        return (number as u64) * 0x100000000000000 + at;
+    }
+    (number as u64) * 0x100000000000000 + MOST_PLACE
+}
+
+fn json_code(answer: JsonAnswer) -> u64
+    ensures { λ r. ⌜ r ≡ jsonCode answer ⌝ }
+{
+    match answer {
+        JsonAnswer::Written(size) => size as u64,
+        JsonAnswer::Refused(number, place) => json_refusal_code(number, place),
+    }
+}
+
 // May this request pass? Bit i of `present` says that the key with code i is there; higher bits, and the bytes or the number of an absent
 // key, are not looked at.
 #[no_mangle]
@@ -149,4 +174,13 @@ pub extern "C" fn stamenhum_gap(first: &[u8], second: &[u8], k: u64, values: &mu
 {
     let mut workspace = [0u64; WORKSPACE];
     showing_code(gap(&mut workspace, first, second, k, values))
+}
+
+// Which table does this policy in the public JSON form make? It is laid down from the first byte of the buffer on; a refusal leaves
+// the buffer as it was.
+#[no_mangle]
+pub extern "C" fn stamenhum_read_json(json: &[u8], table: &mut [u8]) -> u64
+    ensures { λ r. ⌜ ReadsJson (now (json .entry)) (now (table .entry)) r (now (table .exit)) ⌝ }
+{
+    json_code(read_json(json, table))
 }

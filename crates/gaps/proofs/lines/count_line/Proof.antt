@@ -1,5 +1,5 @@
 -- The number behind its name, and the line feed.
-use Rattle.gaps.proofs.Laying.{joined}
+use Rattle.printing.proofs.Laying.{joined}
 use Rattle.gaps.specs.Lines.{countLine}
 use borrow.Author.Needs.{needs}
 use Rattle.gaps.proofs.lines.count_line.Statement.{statement}

@@ -1,5 +1,5 @@
 -- The number, the columns that are there, and the line feed, each behind the one before it.
-use Rattle.gaps.proofs.Laying.{joined, widened}
+use Rattle.printing.proofs.Laying.{joined, widened}
 use native.Mathlib.Omega.{arith}
 use Rattle.gaps.specs.Lines.{gapLine}
 use borrow.Author.Needs.{needs}

@@ -1,5 +1,5 @@
 -- An address that is there is laid down behind its name, and one that is absent adds nothing.
-use Rattle.gaps.proofs.Laying.{joined, nothing}
+use Rattle.printing.proofs.Laying.{joined, nothing}
 use borrow.Author.Needs.{needs}
 use Rattle.gaps.proofs.lines.put_address.Statement.{statement}
 use Rattle.gaps.proofs.lines.put_address.Tie as tie

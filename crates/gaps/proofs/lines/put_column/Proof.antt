@@ -3,7 +3,7 @@ use Prim.Native.Nat.{_+_}
 use native.Mathlib.Omega.{arith}
 use denote.Ref.{now}
 use lib.ListN.{length}
-use Rattle.gaps.proofs.Laying.{widened}
+use Rattle.printing.proofs.Laying.{widened}
 use borrow.Author.Needs.{needs}
 use Rattle.gaps.proofs.lines.put_column.Statement.{statement}
 use Rattle.gaps.proofs.lines.put_column.Tie as tie

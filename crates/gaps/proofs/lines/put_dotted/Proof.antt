@@ -1,5 +1,5 @@
 -- Four numbers, each behind the one before it.
-use Rattle.gaps.proofs.Laying.{joined}
+use Rattle.printing.proofs.Laying.{joined}
 use Rattle.gaps.specs.Lines.{dotted}
 use borrow.Author.Needs.{needs}
 use Rattle.gaps.proofs.lines.put_dotted.Statement.{statement}

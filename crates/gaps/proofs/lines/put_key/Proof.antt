@@ -1,5 +1,5 @@
 -- A value that is there is laid down behind its name, and one that is absent adds nothing.
-use Rattle.gaps.proofs.Laying.{nothing}
+use Rattle.printing.proofs.Laying.{nothing}
 use borrow.Author.Needs.{needs}
 use Rattle.gaps.proofs.lines.put_key.Statement.{statement}
 use Rattle.gaps.proofs.lines.put_key.Tie as tie

@@ -1,5 +1,5 @@
 -- Three columns, each behind the one before it.
-use Rattle.gaps.proofs.Laying.{joined}
+use Rattle.printing.proofs.Laying.{joined}
 use borrow.Author.Needs.{needs}
 use Rattle.gaps.proofs.lines.put_needed.Statement.{statement}
 use Rattle.gaps.proofs.lines.put_needed.Tie as tie

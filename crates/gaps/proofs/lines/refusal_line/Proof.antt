@@ -1,5 +1,5 @@
 -- Three numbers, each behind a space, and the line feed.
-use Rattle.gaps.proofs.Laying.{joined}
+use Rattle.printing.proofs.Laying.{joined}
 use Rattle.gaps.specs.Lines.{refusalLine}
 use borrow.Author.Needs.{needs}
 use Rattle.gaps.proofs.lines.refusal_line.Statement.{statement}

@@ -1,6 +1,6 @@
 -- The column stands in its 512 bytes.
 use native.Mathlib.Nat.{add-sub-cancel-left}
-use Rattle.gaps.proofs.Laying.{value-short}
+use Rattle.gaps.proofs.ShortValues.{value-short}
 use borrow.Author.Needs.{needs}
 use Rattle.gaps.proofs.lines.value_in.Statement.{statement}
 use Rattle.gaps.proofs.lines.value_in.Tie as tie

@@ -1,8 +1,8 @@
 -- The name, and the bytes behind it.
-use Rattle.gaps.proofs.Laying.{joined}
+use Rattle.printing.proofs.Laying.{joined}
 use borrow.Author.Needs.{needs}
-use Rattle.gaps.proofs.lines.put_named.Statement.{statement}
-use Rattle.gaps.proofs.lines.put_named.Tie as tie
+use Rattle.printing.proofs.put_named.Statement.{statement}
+use Rattle.printing.proofs.put_named.Tie as tie
 
 put-requires : tie.Need-put-requires
 put-requires c κs = search needs

@@ -8,7 +8,7 @@ use native.Mathlib.Nat.{pow-suc, pow-le-pow-right, div-lt-iff-lt-mul, le-div-iff
 use lib.Dec.{ltb}
 use borrow.Author.Tests.{lt-ltb, le-ltb, ltb-true, ltb-false}
 use Rattle.io.specs.Digits.{glyph, digits, Fewest}
-use Rattle.gaps.specs.Lines.{digit, decimalDigits, decimalOf}
+use Rattle.printing.specs.Decimals.{digit, decimalDigits, decimalOf}
 
 glyph-digit : (d : ℕ) → d < 10 → glyph d ≡ digit d
 glyph-digit d h = rw (lt-ltb d 10 h)

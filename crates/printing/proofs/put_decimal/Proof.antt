@@ -2,10 +2,10 @@
 use mathlib.Core.Path.{_∙_}
 use native.Mathlib.Omega.{arith}
 use borrow.Author.Needs.{needs}
-use Rattle.gaps.proofs.Laying.{widened, relaid}
-use Rattle.gaps.proofs.Decimal.{decimal, at-most-20}
-use Rattle.gaps.proofs.lines.put_decimal.Statement.{statement}
-use Rattle.gaps.proofs.lines.put_decimal.Tie as tie
+use Rattle.printing.proofs.Laying.{widened, relaid}
+use Rattle.printing.proofs.Decimal.{decimal, at-most-20}
+use Rattle.printing.proofs.put_decimal.Statement.{statement}
+use Rattle.printing.proofs.put_decimal.Tie as tie
 
 decimal-requires : tie.Need-decimal-requires
 decimal-requires c κs = search needs

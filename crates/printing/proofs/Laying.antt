@@ -1,13 +1,12 @@
 -- Runs of bytes laid down one behind the other are one run.
-use Prim.Native.Nat.{ℕ, suc, _+_, _*_, _≤_}
+use Prim.Native.Nat.{ℕ, suc, _+_, _≤_}
 use mathlib.Core.Path.{_≡_, refl, sym, _∙_, ap}
 use mathlib.Core.List.{List, [], _∷_, _++_}
-use native.Mathlib.Nat.{le-antisymm, min-le-left, min-le-right}
+use native.Mathlib.Nat.{le-antisymm}
 use native.Mathlib.Omega.{arith}
-use lib.ListN.{length, length-append, length-take, set, take, drop}
+use lib.ListN.{length, length-append, set}
 use lib.Seq.{sets, sets-eq, paste, take-length}
-use Rattle.comparing.specs.Compared.{shownBytes}
-use Rattle.gaps.specs.Lines.{Laid}
+use Rattle.printing.specs.Laying.{Laid}
 
 sets-behind : (l : List ℕ) (at : ℕ) (xs ys : List ℕ) (p : ℕ) → p ≡ at + length xs → sets (sets l at xs) p ys ≡ sets l at (xs ++ ys)
 sets-behind l at [] ys p e = ap (λ (n : ℕ). sets l n ys) (omega arith)
@@ -36,13 +35,6 @@ pub copied : (before : List ℕ) (at : ℕ) (bytes : List ℕ) (i : ℕ)
     → at + length bytes ≤ length before → i ≤ length bytes → length bytes ≤ i → paste before at bytes i ≡ sets before at bytes
 copied before at bytes i room below above =
     rw (le-antisymm below above, take-length bytes) (sym (sets-eq bytes before at room))
-
--- a value in its column's 512 bytes has at most 512
-pub value-short : (values : List ℕ) (column size : ℕ) → length (shownBytes values column size) ≤ 512
-value-short values column size =
-    let inner = length-take 512 (drop (column * 512) values) in
-    let outer = length-take size (take 512 (drop (column * 512) values)) in
-    omega (arith, min-le-left 512 (length (drop (column * 512) values)), min-le-right size (length (take 512 (drop (column * 512) values))))
 
 -- the same bytes
 pub relaid : {before after xs ys : List ℕ} {at q m : ℕ} → xs ≡ ys → Laid before at xs m after q → Laid before at ys m after q

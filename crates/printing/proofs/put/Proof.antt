@@ -6,10 +6,10 @@ use native.Mathlib.Omega.{arith}
 use denote.Ref.{now}
 use lib.ListN.{length, length-set}
 use lib.Seq.{paste, paste-zero, paste-suc}
-use Rattle.gaps.proofs.Laying.{copied}
+use Rattle.printing.proofs.Laying.{copied}
 use borrow.Author.Needs.{needs}
-use Rattle.gaps.proofs.lines.put.Statement.{statement}
-use Rattle.gaps.proofs.lines.put.Tie as tie
+use Rattle.printing.proofs.put.Statement.{statement}
+use Rattle.printing.proofs.put.Tie as tie
 
 abbrev Inv-loop : tie.InvT-loop
 Inv-loop out₀ at bytes i₀ out i = (i ≤ length bytes) × (length out ≡ length out₀) × (out ≡ paste out₀ at bytes i)

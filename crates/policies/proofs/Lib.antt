@@ -1,0 +1,2 @@
+-- What the program that reads policies promises.
+pub mod Promises

@@ -1,0 +1,2 @@
+-- What the program that reads policies prints.
+pub mod Lines

@@ -1,0 +1,3 @@
+-- Laws of lines.
+pub mod Laying
+pub mod Decimal

@@ -1,0 +1,3 @@
+-- Numbers in decimal, and what laying bytes down leaves.
+pub mod Decimals
+pub mod Laying
