@@ -2,28 +2,27 @@
 use Prim.{tt}
 use Prim.Native.Nat.{ℕ, zero, suc, _+_, _*_, _-_, _^_, _≤_, _<_}
 use mathlib.Core.Bool.{Bool, true, false}
-use mathlib.Core.Path.{_≡_, refl, sym, _∙_, ap}
+use mathlib.Core.Path.{_≡_, refl}
 use mathlib.Core.List.{List, [], _∷_}
 use native.Mathlib.Omega.{arith}
 use lib.Dec.{eqb, leb}
 use borrow.Author.Tests.{leb-true}
 use Rattle.json.specs.Choice.{pick}
 use Rattle.json.specs.Bytes.{isDigit}
-use Rattle.json.specs.Trees.{Shape, Tree}
+use Rattle.json.specs.Trees.{Tree}
 use Rattle.json.specs.Trees.Shape.{one, several, named}
 use Rattle.json.specs.Trees.Tree.{text, other, list, object, end-list, element, end-object, member}
 use Rattle.json.specs.Choice.{sameBytes}
 use Rattle.stored.specs.Operators.{rowOf}
-use Rattle.stored.specs.Entries.{Entry, Fits, AllFit}
-use Rattle.stored.specs.Entries.Entry.{start, statement, column, condition, network, value, end}
+use Rattle.stored.specs.Entries.{Entry, AllFit}
+use Rattle.stored.specs.Entries.Entry.{statement, network, value, end}
 use Rattle.stored.specs.declared.items.Effect.the-variants as E
 use Rattle.stored.specs.declared.items.Operator.{Operator}
 use Rattle.stored.specs.declared.items.Sort.{Sort}
 use Rattle.stored.specs.declared.items.Sort.the-variants as S
-use Rattle.members.specs.Members.{place, topKind, rowKind, operatorKind, keyKind}
-use Rattle.records.specs.Networks as N
+use Rattle.members.specs.Members.{place, operatorKind}
 use Rattle.records.specs.Networks.{Read, Number, Longer, withDigit, afterDigit, lengthOf, ended, dotted, slashed, numbersOf, networkOf}
-use Rattle.records.specs.Documents.{Found, held, stated, under, marked, membersOf, holder, same, allowText, denyText, bytes, operatorAt, keyAt, columnAt, statementsOf}
+use Rattle.records.specs.Documents.{Found, held, stated, marked, membersOf, holder, same, allowText, denyText, bytes, operatorAt}
 use Rattle.records.specs.Wishes.{Wish, networkWish, stringWish, eachWish, listWishes, valueWishes, effectWish, elementWishes, keyWishes, operatorWishes, statementWishes, rowWishes, rowsWishes, wishes, entryOf, entries}
 
 abbrev Small : Read → Type 0

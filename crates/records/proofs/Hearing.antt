@@ -1,7 +1,7 @@
 -- The strings of an element and the wishes of conditions: one token of the walk.
 use Prim.Native.Nat.{ℕ, _+_, _-_}
 use mathlib.Core.Path.{_≡_, refl, sym, _∙_, ap}
-use mathlib.Core.List.{List, [], _∷_}
+use mathlib.Core.List.{List, _∷_}
 use lib.ListN.{length, drop}
 use Rattle.json.specs.machinery.Pieces.{contentOf}
 use Rattle.json.specs.machinery.Tokens.{Token, mark}

@@ -1,19 +1,17 @@
 -- A document whose records are all taken is written as the table of its statements.
-use Prim.Native.Nat.{ℕ, _+_, _≤_, _<_}
-use mathlib.Core.Bool.{Bool, true, false}
-use mathlib.Core.Path.{_≡_, refl, sym, _∙_, ap, subst}
+use Prim.Native.Nat.{ℕ, _+_, _≤_}
+use mathlib.Core.Bool.{true}
+use mathlib.Core.Path.{_≡_, refl, _∙_, ap, subst}
 use mathlib.Core.List.{List, [], _∷_, _++_}
 use native.Mathlib.Omega.{arith}
-use lib.Dec.{eqb, ltb}
 use lib.ListN.{length, take}
 use lib.Seq.{sets, length-sets}
 use borrow.Author.Tests.{le-ltb}
-use Rattle.json.specs.Choice.{pick}
 use Rattle.json.specs.Trees.{Tree}
 use Rattle.json.specs.Trees.Shape.{one}
-use Rattle.stored.specs.Machine.{freshState, isEnded, admitItem}
+use Rattle.stored.specs.Machine.{freshState, isEnded}
 use Rattle.stored.specs.Reading.{reading}
-use Rattle.stored.specs.Writing.{freshWriter, recordOf, placing, writing}
+use Rattle.stored.specs.Writing.{freshWriter, recordOf, writing}
 use Rattle.stored.specs.Entries.{Entry, itemOf, bytesOf, entriesOf, Writes}
 use Rattle.stored.specs.machinery.Following.{admit}
 use Rattle.stored.specs.Entries.Entry.{start, statement, column, condition, network, value, end}
@@ -32,7 +30,7 @@ use Rattle.members.specs.Members.Verdict.{fine, refused}
 use Rattle.records.specs.Documents.{statementsOf}
 use Rattle.records.specs.Wishes.{Wish, wishes, entries}
 use Rattle.records.specs.Wishes.Wish.{made, strange, empty, unread}
-use Rattle.records.specs.Records.{wishTurn, wishPlace, afterWish, running, wishSize, sizeOf, recordsOf}
+use Rattle.records.specs.Records.{afterWish, running, sizeOf, recordsOf}
 use Rattle.records.proofs.Wished.{wished}
 use Rattle.records.proofs.Addresses.{all-fit}
 

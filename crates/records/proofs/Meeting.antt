@@ -1,12 +1,10 @@
 -- The next token of a text, and what follows of the tokens from a place on.
-use Prim.{tt}
-use Prim.Native.Nat.{ℕ, suc, _+_, _-_, _≤_, _<_}
+use Prim.Native.Nat.{ℕ, _+_, _-_, _≤_, _<_}
 use mathlib.Core.Bool.{Bool, true, false}
-use mathlib.Core.Path.{_≡_, refl, sym, _∙_, ap, subst}
-use mathlib.Core.List.{List, [], _∷_}
+use mathlib.Core.Path.{_≡_, refl, _∙_, ap, subst}
+use mathlib.Core.List.{List, []}
 use native.Mathlib.Omega.{arith}
 use lib.ListN.{length, drop}
-use Rattle.json.specs.machinery.Pieces.{contentOf}
 use Rattle.json.specs.machinery.Tokens.{Token, mark}
 use Rattle.json.specs.machinery.Marks.{isNothing, tokensAt, metTokens, Ahead}
 use Rattle.json.specs.declared.events.Event.{Event}

@@ -1,7 +1,7 @@
 -- The wishes from the tokens of a sound document are those of its tree.
-use Prim.Native.Nat.{ℕ, zero, suc, _+_, _/_, _≤_, _<_}
+use Prim.Native.Nat.{ℕ, suc, _+_, _/_, _≤_}
 use mathlib.Core.Bool.{Bool, true, false}
-use mathlib.Core.Path.{_≡_, refl, sym, _∙_, ap, subst}
+use mathlib.Core.Path.{_≡_, refl, _∙_, ap, subst}
 use mathlib.Core.List.{List, [], _∷_}
 use native.Mathlib.Omega.{arith}
 use lib.Dec.{eqb, leb}
@@ -14,7 +14,7 @@ use Rattle.json.specs.Trees.Shape.{one, several, named}
 use Rattle.json.specs.Trees.Tree.{text, other, list, object, end-list, element, end-object, member}
 use Rattle.json.specs.machinery.Tokens.{Token, flat}
 use Rattle.stored.specs.Operators.{rowOf}
-use Rattle.stored.specs.Entries.Entry.{start, statement, column, condition, network, value, end}
+use Rattle.stored.specs.Entries.Entry.{start, statement, condition, value, end}
 use Rattle.stored.specs.declared.items.Operator.{Operator}
 use Rattle.stored.specs.declared.items.Key.{Key}
 use Rattle.stored.specs.declared.items.Sort.{Sort}
@@ -23,11 +23,11 @@ use Rattle.members.specs.machinery.Verdicts as Mb
 use Rattle.members.specs.Members.{Verdict, place, topKind, rowKind, rowSlot, awsKind, operatorKind, keyKind}
 use Rattle.members.specs.machinery.Verdicts.{following, isSeen, add, isBad}
 use Rattle.members.specs.Members.Verdict.{fine, refused}
-use Rattle.records.specs.Documents.{Found, held, stated, eachStatement, statementsUnder, under, marked, membersOf, holder, same, bytes, operatorAt, keyAt, columnAt}
+use Rattle.records.specs.Documents.{Found, held, stated, eachStatement, statementsUnder, marked, membersOf, holder, same, bytes, operatorAt, keyAt}
 use Rattle.records.specs.Wishes.{Wish, stringWish, eachWish, listWishes, valueWishes, effectWish, elementWishes, keyWishes, operatorWishes, statementWishes, rowWishes, rowsWishes, wishes}
-use Rattle.records.specs.Wishes.Wish.{made, strange, empty, unread}
-use Rattle.records.specs.machinery.Walkers.{Sought, nextPlace, seek}
-use Rattle.records.specs.machinery.Streams.{Hold, Spot, Among, afterString, closing, valuesFrom, conditionsFrom, effectOn, effectFrom, elementFrom, conditionFrom, rowFrom, rowsFrom, countFrom, statementFrom, documentFrom}
+use Rattle.records.specs.Wishes.Wish.{made}
+use Rattle.records.specs.machinery.Walkers.{Sought, nextPlace}
+use Rattle.records.specs.machinery.Streams.{Spot, Among, valuesFrom, conditionsFrom, effectOn, effectFrom, elementFrom, conditionFrom, rowFrom, rowsFrom, countFrom, statementFrom, documentFrom}
 use Rattle.records.specs.machinery.Streams.Hold.{outside, fresh, filled}
 use Rattle.records.specs.declared.walking.Table.the-variants as W
 use Rattle.records.proofs.Seeking.{soughtIn, seeks}

@@ -1,12 +1,12 @@
 -- The entries that a document wishes for are those of its statements.
 use Prim.Native.Nat.{ℕ}
 use mathlib.Core.Bool.{Bool, true, false}
-use mathlib.Core.Path.{_≡_, refl, sym, _∙_, ap}
+use mathlib.Core.Path.{_≡_, refl, _∙_, ap}
 use mathlib.Core.List.{List, [], _∷_}
 use lib.ListN.{length}
 use Rattle.json.specs.Choice.{pick}
 use Rattle.json.specs.Choice.{sameBytes}
-use Rattle.json.specs.Trees.{Shape, Tree}
+use Rattle.json.specs.Trees.{Tree}
 use Rattle.json.specs.Trees.Shape.{one, several, named}
 use Rattle.json.specs.Trees.Tree.{text, other, list, object, end-list, element, end-object, member}
 use Rattle.stored.specs.Operators.{rowOf}
@@ -18,10 +18,10 @@ use Rattle.stored.specs.declared.items.Effect.the-variants as E
 use Rattle.stored.specs.declared.items.Operator.{Operator}
 use Rattle.stored.specs.declared.items.Sort.{Sort}
 use Rattle.stored.specs.declared.items.Sort.the-variants as S
-use Rattle.members.specs.Members.{place, topKind, rowKind, operatorKind, keyKind}
+use Rattle.members.specs.Members.{place, operatorKind, keyKind}
 use Rattle.records.specs.Networks.{networkOf}
 use Rattle.records.specs.Networks as N
-use Rattle.records.specs.Documents.{Found, held, stated, under, marked, membersOf, holder, same, allowText, denyText, bytes, operatorAt, keyAt, columnAt, each, strings, effectOf, range, listedBy, listed, elementIn, conditionsUnder, conditionsOf, statementOf, eachStatement, statementsUnder, statementsOf}
+use Rattle.records.specs.Documents.{Found, held, stated, marked, membersOf, holder, same, allowText, denyText, bytes, operatorAt, keyAt, columnAt, each, strings, effectOf, range, listedBy, listed, elementIn, conditionsUnder, conditionsOf, statementOf, eachStatement, statementsUnder, statementsOf}
 use Rattle.records.specs.Wishes.{Wish, networkWish, stringWish, eachWish, listWishes, valueWishes, effectWish, elementWishes, keyWishes, operatorWishes, statementWishes, rowWishes, rowsWishes, wishes, entryOf, entries}
 
 string-wished : (s : Sort) (n : ℕ) (bs : List ℕ) (xs : List Listed) (r : List Wish) (es : List Entry) → entries r ≡ listedFor xs es

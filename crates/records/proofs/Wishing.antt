@@ -1,8 +1,8 @@
 -- One wish of a document: the effect, the document's beginning, and a place that is cut down to the text.
-use Prim.Native.Nat.{ℕ, suc, _+_, _-_, _≤_, _<_}
+use Prim.Native.Nat.{ℕ, _+_, _-_, _<_}
 use mathlib.Core.Bool.{Bool, true, false}
 use mathlib.Core.Path.{_≡_, refl, sym, _∙_, ap}
-use mathlib.Core.List.{List, [], _∷_}
+use mathlib.Core.List.{List, []}
 use native.Mathlib.Omega.{arith}
 use lib.Dec.{leb}
 use lib.ListN.{length, drop, drop-of-length-le}
@@ -13,7 +13,6 @@ use Rattle.json.specs.machinery.Tokens.{Token, mark, tokensOf}
 use Rattle.json.specs.machinery.Marks.{isNothing}
 use Rattle.json.specs.declared.events.Event.{Event}
 use Rattle.json.specs.declared.events.Event.the-variants as E
-use Rattle.stored.specs.Entries.{Entry}
 use Rattle.stored.specs.Entries.Entry.{start, statement, column, condition, end}
 use Rattle.stored.specs.declared.items.Effect.the-variants as Ef
 use Rattle.stored.specs.declared.items.Sort.{Sort}

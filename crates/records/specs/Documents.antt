@@ -1,16 +1,13 @@
 -- What a document says: its statements as data. Only of a document without a 20, 21 or 22 is this the meaning; of others it is something.
 use Prim.Native.Nat.{ℕ}
-use mathlib.Core.Bool.{Bool, true, false}
-use mathlib.Core.List.{List, [], _∷_, _++_}
-use lib.Dec.{eqb, leb}
-use Rattle.json.specs.Trees.{Shape, Tree}
+use mathlib.Core.List.{List, [], _∷_}
+use lib.Dec.{eqb}
+use Rattle.json.specs.Trees.{Tree}
 use Rattle.json.specs.Trees.Shape.{one, several, named}
 use Rattle.json.specs.Trees.Tree.{text, other, list, object, end-list, element, end-object, member}
 use Rattle.stored.specs.Choice.{pick}
-use Rattle.stored.specs.Operators.{operatorOf, rowOf}
-use Rattle.stored.specs.Items.{keyOf}
+use Rattle.stored.specs.Operators.{rowOf}
 use Rattle.stored.specs.Tables.{Listed, Element, Condition, Statement}
-use Rattle.stored.specs.Tables as Tb
 use Rattle.stored.specs.declared.items.Effect.{Effect}
 use Rattle.stored.specs.declared.items.Effect.the-variants as E
 use Rattle.stored.specs.declared.items.Column.{Column}
@@ -24,7 +21,7 @@ use Rattle.stored.specs.declared.items.Sort.the-variants as S
 use Rattle.records.specs.Networks as N
 use Rattle.records.specs.Networks.{networkOf}
 use Rattle.json.specs.Choice.{sameBytes}
-use Rattle.members.specs.Members.{place, topKind, rowKind, rowSlot, awsKind, operatorKind, keyKind}
+use Rattle.members.specs.Members.{topKind, rowKind, rowSlot, awsKind, operatorKind, keyKind}
 
 -- the value of the first member of a kind; a value that is nothing where there is none
 abbrev pub under : (List ℕ → ℕ) → ℕ → Tree named → Tree one

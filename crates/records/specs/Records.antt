@@ -1,11 +1,11 @@
 -- The wishes of a document through stored's state machine, one after the other: the first that is refused, with its place.
 use Prim.Native.Nat.{ℕ, _+_}
-use mathlib.Core.Bool.{Bool, true, false, _||_}
+use mathlib.Core.Bool.{_||_}
 use mathlib.Core.List.{List, [], _∷_}
 use lib.Dec.{eqb, leb, ltb}
 use lib.ListN.{length}
 use Rattle.json.specs.Choice.{pick}
-use Rattle.stored.specs.Entries.{Entry, itemOf, bytesOf}
+use Rattle.stored.specs.Entries.{itemOf, bytesOf}
 use Rattle.stored.specs.Writing.{recordOf}
 use Rattle.stored.specs.Machine.{freshState, admitItem}
 use Rattle.stored.specs.declared.machine.State.{State}

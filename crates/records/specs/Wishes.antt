@@ -1,9 +1,8 @@
 -- The records that a document would make, in the order of the table, each with the place of the value that it comes from.
 use Prim.Native.Nat.{ℕ}
-use mathlib.Core.Bool.{Bool, true, false}
 use mathlib.Core.List.{List, [], _∷_}
 use lib.ListN.{length}
-use Rattle.json.specs.Trees.{Shape, Tree}
+use Rattle.json.specs.Trees.{Tree}
 use Rattle.json.specs.Trees.Shape.{one, several, named}
 use Rattle.json.specs.Trees.Tree.{text, other, list, object, end-list, element, end-object, member}
 use Rattle.json.specs.Choice.{pick}
@@ -15,10 +14,10 @@ use Rattle.stored.specs.declared.items.Effect.the-variants as E
 use Rattle.stored.specs.declared.items.Operator.{Operator}
 use Rattle.stored.specs.declared.items.Sort.{Sort}
 use Rattle.stored.specs.declared.items.Sort.the-variants as S
-use Rattle.members.specs.Members.{place, topKind, rowKind, operatorKind, keyKind}
+use Rattle.members.specs.Members.{place, operatorKind, keyKind}
 use Rattle.records.specs.Networks.{networkOf}
 use Rattle.records.specs.Networks as N
-use Rattle.records.specs.Documents.{Found, held, stated, under, marked, membersOf, holder, same, allowText, denyText, bytes, operatorAt, keyAt, columnAt, statementsOf}
+use Rattle.records.specs.Documents.{Found, held, stated, marked, membersOf, holder, same, allowText, denyText, bytes, operatorAt, keyAt, columnAt, statementsOf}
 
 pub data Wish : Type 0 where
   -- an entry

@@ -34,7 +34,7 @@ ghost use Rattle.records.specs.declared.walking.Table.the-variants as W;
 ghost use Rattle.records.specs.machinery.Walkers.{seek};
 ghost use Rattle.records.specs.machinery.Rows.{AtMost, amongOf};
 ghost use Rattle.records.specs.machinery.Streams.{valuesFrom, conditionsFrom, rowFrom, rowsFrom, statementFrom, documentFrom};
-ghost use Rattle.records.specs.machinery.Cursors.{holdOf, spotOf, last, behindRow, columnFrom, conditionsPart, resourcePart, actionPart, principalPart, partsFrom, firstCursor, wishesLeft, nextWishes, Inside, Clipped};
+ghost use Rattle.records.specs.machinery.Cursors.{holdOf, spotOf, last, behindRow, columnFrom, conditionsLeft, resourceLeft, actionLeft, principalLeft, partLeft, firstCursor, wishesLeft, nextWishes, Inside, Clipped};
 
 // The beginning of a document.
 pub fn first() -> Cursor
@@ -90,7 +90,7 @@ fn conditions_at(text: &[u8], here: Mark, spot: Spot, row: Mark, listed: bool) -
 }
 
 fn conditions(text: &[u8], row: Mark, listed: bool) -> Next
-    ensures { λ r. ⌜ conditionsPart (tokensAt (now (text .entry)) row) (behindRow (now (text .entry)) row listed) ≡ nextWishes (now (text .entry)) r ⌝ }
+    ensures { λ r. ⌜ conditionsLeft (now (text .entry)) row listed ≡ nextWishes (now (text .entry)) r ⌝ }
 {
     match seek_member(text, row, Table::Row, 6) {
         Sought::None => after_row(text, row, listed),
@@ -100,7 +100,7 @@ fn conditions(text: &[u8], row: Mark, listed: bool) -> Next
 
 // An element begins: its column, with the part that comes behind its values.
 fn column(text: &[u8], kind: u8, value: Mark, row: Mark, listed: bool, part: Part) -> Next
-    ensures { λ r. ⌜ columnFrom kind (tokensAt (now (text .entry)) value) (partsFrom (tokensAt (now (text .entry)) row) part (behindRow (now (text .entry)) row listed)) ≡ nextWishes (now (text .entry)) r ⌝ }
+    ensures { λ r. ⌜ columnFrom kind (tokensAt (now (text .entry)) value) (partLeft (now (text .entry)) row listed part) ≡ nextWishes (now (text .entry)) r ⌝ }
 {
     let column = column_at(kind);
     let place = place_from(text, value);
@@ -108,7 +108,7 @@ fn column(text: &[u8], kind: u8, value: Mark, row: Mark, listed: bool, part: Par
 }
 
 fn resource(text: &[u8], row: Mark, listed: bool) -> Next
-    ensures { λ r. ⌜ resourcePart (tokensAt (now (text .entry)) row) (behindRow (now (text .entry)) row listed) ≡ nextWishes (now (text .entry)) r ⌝ }
+    ensures { λ r. ⌜ resourceLeft (now (text .entry)) row listed ≡ nextWishes (now (text .entry)) r ⌝ }
 {
     match seek_member(text, row, Table::Row, 5) {
         Sought::None => conditions(text, row, listed),
@@ -117,7 +117,7 @@ fn resource(text: &[u8], row: Mark, listed: bool) -> Next
 }
 
 fn action(text: &[u8], row: Mark, listed: bool) -> Next
-    ensures { λ r. ⌜ actionPart (tokensAt (now (text .entry)) row) (behindRow (now (text .entry)) row listed) ≡ nextWishes (now (text .entry)) r ⌝ }
+    ensures { λ r. ⌜ actionLeft (now (text .entry)) row listed ≡ nextWishes (now (text .entry)) r ⌝ }
 {
     match seek_member(text, row, Table::Row, 4) {
         Sought::None => resource(text, row, listed),
@@ -126,7 +126,7 @@ fn action(text: &[u8], row: Mark, listed: bool) -> Next
 }
 
 fn principal(text: &[u8], row: Mark, listed: bool) -> Next
-    ensures { λ r. ⌜ principalPart (tokensAt (now (text .entry)) row) (behindRow (now (text .entry)) row listed) ≡ nextWishes (now (text .entry)) r ⌝ }
+    ensures { λ r. ⌜ principalLeft (now (text .entry)) row listed ≡ nextWishes (now (text .entry)) r ⌝ }
 {
     match seek_member(text, row, Table::Row, 3) {
         Sought::None => action(text, row, listed),
@@ -135,7 +135,7 @@ fn principal(text: &[u8], row: Mark, listed: bool) -> Next
 }
 
 fn parts(text: &[u8], row: Mark, listed: bool, part: Part) -> Next
-    ensures { λ r. ⌜ partsFrom (tokensAt (now (text .entry)) row) part (behindRow (now (text .entry)) row listed) ≡ nextWishes (now (text .entry)) r ⌝ }
+    ensures { λ r. ⌜ partLeft (now (text .entry)) row listed part ≡ nextWishes (now (text .entry)) r ⌝ }
 {
     match part {
         Part::Principal => principal(text, row, listed),
@@ -146,7 +146,7 @@ fn parts(text: &[u8], row: Mark, listed: bool, part: Part) -> Next
 }
 
 fn values(text: &[u8], here: Mark, hold: Hold, row: Mark, listed: bool, part: Part) -> Next
-    ensures { λ r. ⌜ valuesFrom S.Text (partsFrom (tokensAt (now (text .entry)) row) part (behindRow (now (text .entry)) row listed)) (tokensAt (now (text .entry)) here) (holdOf (now (text .entry)) hold) ≡ nextWishes (now (text .entry)) r ⌝ }
+    ensures { λ r. ⌜ valuesFrom S.Text (partLeft (now (text .entry)) row listed part) (tokensAt (now (text .entry)) here) (holdOf (now (text .entry)) hold) ≡ nextWishes (now (text .entry)) r ⌝ }
 {
     match next_string(text, here, hold) {
         Strings::Listed(place, mark) => Next::Wish(Wish::Value, place, Cursor { stage: Stage::Values(part, Hold::Filled), here: mark, row, listed }),

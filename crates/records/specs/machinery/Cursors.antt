@@ -1,6 +1,6 @@
 -- The wishes of a document that a cursor has still to give.
-use Prim.Native.Nat.{ℕ, zero, suc, _+_, _-_, _≤_, _<_}
-use mathlib.Core.Bool.{Bool, true, false}
+use Prim.Native.Nat.{ℕ, _+_, _-_, _≤_, _<_}
+use mathlib.Core.Bool.{Bool, false}
 use mathlib.Core.Path.{_≡_}
 use mathlib.Core.List.{List, [], _∷_}
 use lib.ListN.{length, drop}
@@ -12,14 +12,14 @@ use Rattle.json.specs.declared.tokens.Mark.{Mark}
 use Rattle.json.specs.declared.events.Event.{Event}
 use Rattle.json.specs.declared.events.Event.the-variants as E
 use Rattle.stored.specs.Operators.{rowOf}
-use Rattle.stored.specs.Entries.Entry.{start, statement, column, condition, network, value, end}
+use Rattle.stored.specs.Entries.Entry.{start, statement, column, condition, value, end}
 use Rattle.stored.specs.declared.items.Effect.the-variants as Ef
 use Rattle.stored.specs.declared.items.Sort.{Sort}
 use Rattle.stored.specs.declared.items.Sort.the-variants as So
 use Rattle.members.specs.Members.{operatorKind, keyKind}
 use Rattle.records.specs.Documents.{allowText, denyText, operatorAt, keyAt, columnAt}
 use Rattle.records.specs.Wishes.{Wish, stringWish}
-use Rattle.records.specs.Wishes.Wish.{made, strange, empty, unread}
+use Rattle.records.specs.Wishes.Wish.{made, strange, empty}
 use Rattle.records.specs.machinery.Walkers.{nextPlace, seek}
 use Rattle.records.specs.machinery.Streams as Streams
 use Rattle.records.specs.machinery.Streams.{valuesFrom, conditionsFrom, elementFrom, conditionFrom, rowsFrom, documentFrom}
@@ -210,31 +210,31 @@ behindRow t row listed = pick listed (rowsFrom last (tokensAt t row) (Streams.Am
 abbrev pub columnFrom : ℕ → List Token → List Wish → List Wish
 columnFrom kind ts r = made (nextPlace ts) (column (columnAt kind)) ∷ valuesFrom So.Text r ts Streams.Hold.outside
 
--- a statement from a part on, then others
-abbrev pub conditionsPart : List Token → List Wish → List Wish
-conditionsPart ts r = conditionFrom (seek T.Row 6 ts 0) r
+-- what comes from a part of a statement on
+abbrev pub conditionsLeft : List ℕ → Mark → Bool → List Wish
+conditionsLeft t row listed = conditionFrom (seek T.Row 6 (tokensAt t row) 0) (behindRow t row listed)
 
-abbrev pub resourcePart : List Token → List Wish → List Wish
-resourcePart ts r = elementFrom (seek T.Row 5 ts 0) (conditionsPart ts r)
+abbrev pub resourceLeft : List ℕ → Mark → Bool → List Wish
+resourceLeft t row listed = elementFrom (seek T.Row 5 (tokensAt t row) 0) (conditionsLeft t row listed)
 
-abbrev pub actionPart : List Token → List Wish → List Wish
-actionPart ts r = elementFrom (seek T.Row 4 ts 0) (resourcePart ts r)
+abbrev pub actionLeft : List ℕ → Mark → Bool → List Wish
+actionLeft t row listed = elementFrom (seek T.Row 4 (tokensAt t row) 0) (resourceLeft t row listed)
 
-abbrev pub principalPart : List Token → List Wish → List Wish
-principalPart ts r = elementFrom (seek T.Row 3 ts 0) (actionPart ts r)
+abbrev pub principalLeft : List ℕ → Mark → Bool → List Wish
+principalLeft t row listed = elementFrom (seek T.Row 3 (tokensAt t row) 0) (actionLeft t row listed)
 
-abbrev pub partsFrom : List Token → Part → List Wish → List Wish
-partsFrom ts P.Principal r = principalPart ts r
-partsFrom ts P.Action r = actionPart ts r
-partsFrom ts P.Resource r = resourcePart ts r
-partsFrom ts P.Conditions r = conditionsPart ts r
+abbrev pub partLeft : List ℕ → Mark → Bool → Part → List Wish
+partLeft t row listed P.Principal = principalLeft t row listed
+partLeft t row listed P.Action = actionLeft t row listed
+partLeft t row listed P.Resource = resourceLeft t row listed
+partLeft t row listed P.Conditions = conditionsLeft t row listed
 
+-- what comes from a stage on
 abbrev pub stageLeft : List ℕ → Mark → Mark → Bool → Stage → List Wish
 stageLeft t here row listed G.Begin = documentFrom (tokensAt t here)
 stageLeft t here row listed G.Rows = rowsFrom last (tokensAt t here) Streams.Among.begin
-stageLeft t here row listed (G.Parts p) = partsFrom (tokensAt t row) p (behindRow t row listed)
-stageLeft t here row listed (G.Values p h) =
-    valuesFrom So.Text (partsFrom (tokensAt t row) p (behindRow t row listed)) (tokensAt t here) (holdOf t h)
+stageLeft t here row listed (G.Parts p) = partLeft t row listed p
+stageLeft t here row listed (G.Values p h) = valuesFrom So.Text (partLeft t row listed p) (tokensAt t here) (holdOf t h)
 stageLeft t here row listed (G.Conditions s) = conditionsFrom (behindRow t row listed) (tokensAt t here) (spotOf t s)
 stageLeft t here row listed G.End = last
 stageLeft t here row listed G.Over = []

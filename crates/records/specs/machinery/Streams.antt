@@ -12,7 +12,7 @@ use Rattle.stored.specs.declared.items.Sort.the-variants as S
 use Rattle.members.specs.Members.{operatorKind, keyKind}
 use Rattle.records.specs.Documents.{operatorAt, keyAt, columnAt}
 use Rattle.records.specs.Wishes.{Wish, stringWish, effectWish}
-use Rattle.records.specs.Wishes.Wish.{made, strange, empty, unread}
+use Rattle.records.specs.Wishes.Wish.{made, empty}
 use Rattle.records.specs.machinery.Walkers.{Sought, nextPlace, seek}
 use Rattle.records.specs.declared.walking.Table.the-variants as W
 

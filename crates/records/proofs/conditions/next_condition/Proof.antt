@@ -1,23 +1,19 @@
 -- The invariant: the wishes from the place at hand are those from the beginning of the walk; none was passed over.
-use Prim.Native.Nat.{ℕ, suc, _+_, _-_, _≤_, _<_}
-use mathlib.Core.Path.{_≡_, refl, sym, _∙_, ap, subst}
+use Prim.Native.Nat.{_-_}
+use mathlib.Core.Path.{_≡_, refl, sym, _∙_, ap}
 use native.Mathlib.Omega.{arith}
-use lib.ListN.{length, drop}
+use lib.ListN.{length}
 use Rattle.json.specs.machinery.Marks.{tokensAt}
-use Rattle.records.proofs.Meeting.{met-none, met-token, met-ahead, nothing-left, next-place}
+use Rattle.records.proofs.Meeting.{met-none, met-token, met-ahead}
 use mathlib.Core.List.{List}
 use Rattle.json.specs.machinery.Tokens.{Token}
 use Rattle.records.specs.Wishes.{Wish}
 use Rattle.records.specs.machinery.Streams.{conditionsFrom}
-use Rattle.records.specs.machinery.Cursors.{spotOf, spotTurn}
+use Rattle.records.specs.machinery.Cursors.{spotOf}
 use Rattle.records.proofs.Hearing.{turns}
 use borrow.Author.Needs.{needs}
 use Rattle.records.proofs.conditions.next_condition.Statement.{statement}
 use Rattle.records.proofs.conditions.next_condition.Tie as tie
-use Rattle.records.proofs.conditions.next_condition.Reads as reads
-use Rattle.records.proofs.conditions.next_condition.Lts as lts
-use Rattle.json.proofs.tokens.next_token.Reads as next-token-reads
-use Rattle.records.proofs.conditions.spot_turn.Reads as spot-turn-reads
 
 abbrev Inv-loop : tie.InvT-loop
 Inv-loop text here₀ spot₀ here spot =

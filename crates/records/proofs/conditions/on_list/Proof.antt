@@ -1,9 +1,7 @@
-use mathlib.Core.Path.{sym, _∙_}
+-- `records::conditions::on_list` meets its contract: the arms are the clauses of `listTurn`.
 use borrow.Author.Needs.{needs}
 use Rattle.records.proofs.conditions.on_list.Statement.{statement}
 use Rattle.records.proofs.conditions.on_list.Tie as tie
-use Rattle.records.proofs.conditions.on_list.Reads as reads
-use Rattle.records.proofs.conditions.on_list.Lts as lts
 
 enum-told : tie.Need-enum-told
 enum-told c = search needs

@@ -1,9 +1,7 @@
-use mathlib.Core.Path.{sym, _∙_}
+-- `records::conditions::on_list_end` meets its contract: the arms are the clauses of `listEndTurn`.
 use borrow.Author.Needs.{needs}
 use Rattle.records.proofs.conditions.on_list_end.Statement.{statement}
 use Rattle.records.proofs.conditions.on_list_end.Tie as tie
-use Rattle.records.proofs.conditions.on_list_end.Reads as reads
-use Rattle.records.proofs.conditions.on_list_end.Lts as lts
 
 enum-told : tie.Need-enum-told
 enum-told c = search needs

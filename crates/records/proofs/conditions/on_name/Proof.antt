@@ -1,13 +1,7 @@
-use mathlib.Core.Path.{sym, _∙_}
+-- `records::conditions::on_name` meets its contract: the arms are the clauses of `nameTurn`.
 use borrow.Author.Needs.{needs}
 use Rattle.records.proofs.conditions.on_name.Statement.{statement}
 use Rattle.records.proofs.conditions.on_name.Tie as tie
-use Rattle.records.proofs.conditions.on_name.Reads as reads
-use Rattle.records.proofs.conditions.on_name.Lts as lts
-use Rattle.members.proofs.names.key_kind.Reads as key-kind-reads
-use Rattle.members.proofs.names.operator_kind.Reads as operator-kind-reads
-use Rattle.records.proofs.wishes.key_at.Reads as key-at-reads
-use Rattle.records.proofs.wishes.operator_at.Reads as operator-at-reads
 
 enum-told : tie.Need-enum-told
 enum-told c = search needs

@@ -1,9 +1,7 @@
-use mathlib.Core.Path.{sym, _∙_}
+-- `records::conditions::on_object` meets its contract: the arms are the clauses of `objectTurn`.
 use borrow.Author.Needs.{needs}
 use Rattle.records.proofs.conditions.on_object.Statement.{statement}
 use Rattle.records.proofs.conditions.on_object.Tie as tie
-use Rattle.records.proofs.conditions.on_object.Reads as reads
-use Rattle.records.proofs.conditions.on_object.Lts as lts
 
 enum-told : tie.Need-enum-told
 enum-told c = search needs

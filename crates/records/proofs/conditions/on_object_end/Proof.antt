@@ -1,9 +1,7 @@
-use mathlib.Core.Path.{sym, _∙_}
+-- `records::conditions::on_object_end` meets its contract: the arms are the clauses of `objectEndTurn`.
 use borrow.Author.Needs.{needs}
 use Rattle.records.proofs.conditions.on_object_end.Statement.{statement}
 use Rattle.records.proofs.conditions.on_object_end.Tie as tie
-use Rattle.records.proofs.conditions.on_object_end.Reads as reads
-use Rattle.records.proofs.conditions.on_object_end.Lts as lts
 
 enum-told : tie.Need-enum-told
 enum-told c = search needs

@@ -1,10 +1,7 @@
-use mathlib.Core.Path.{sym, _∙_}
+-- `records::conditions::on_text` meets its contract: the arms are the clauses of `textTurn`.
 use borrow.Author.Needs.{needs}
 use Rattle.records.proofs.conditions.on_text.Statement.{statement}
 use Rattle.records.proofs.conditions.on_text.Tie as tie
-use Rattle.records.proofs.conditions.on_text.Reads as reads
-use Rattle.records.proofs.conditions.on_text.Lts as lts
-use Rattle.records.proofs.wishes.string_kind.Reads as string-kind-reads
 
 enum-told : tie.Need-enum-told
 enum-told c = search needs

@@ -1,15 +1,7 @@
-use mathlib.Core.Path.{sym, _∙_}
+-- `records::conditions::spot_turn` meets its contract: the arms are the clauses of `spotTurn`.
 use borrow.Author.Needs.{needs}
 use Rattle.records.proofs.conditions.spot_turn.Statement.{statement}
 use Rattle.records.proofs.conditions.spot_turn.Tie as tie
-use Rattle.records.proofs.conditions.spot_turn.Reads as reads
-use Rattle.records.proofs.conditions.spot_turn.Lts as lts
-use Rattle.records.proofs.conditions.on_list.Reads as on-list-reads
-use Rattle.records.proofs.conditions.on_list_end.Reads as on-list-end-reads
-use Rattle.records.proofs.conditions.on_name.Reads as on-name-reads
-use Rattle.records.proofs.conditions.on_object.Reads as on-object-reads
-use Rattle.records.proofs.conditions.on_object_end.Reads as on-object-end-reads
-use Rattle.records.proofs.conditions.on_text.Reads as on-text-reads
 
 enum-told : tie.Need-enum-told
 enum-told c = search needs

@@ -1,16 +1,11 @@
-use mathlib.Core.Path.{_≡_, sym, _∙_, ap, subst}
-use Rattle.json.specs.machinery.Marks.{tokensAt}
+-- `records::cursor::action` meets its contract: what the walk to the member finds is what `elementFrom` goes by.
+use mathlib.Core.Path.{sym, _∙_, ap}
 use Rattle.records.specs.machinery.Walkers.{Sought, told}
 use Rattle.records.specs.machinery.Streams.{elementFrom}
-use Rattle.records.specs.machinery.Cursors.{behindRow, resourcePart}
+use Rattle.records.specs.machinery.Cursors.{resourceLeft}
 use borrow.Author.Needs.{needs}
 use Rattle.records.proofs.cursor.action.Statement.{statement}
 use Rattle.records.proofs.cursor.action.Tie as tie
-use Rattle.records.proofs.cursor.action.Reads as reads
-use Rattle.records.proofs.cursor.action.Lts as lts
-use Rattle.records.proofs.cursor.column.Reads as column-reads
-use Rattle.records.proofs.cursor.resource.Reads as resource-reads
-use Rattle.records.proofs.walking.seek_member.Reads as seek-member-reads
 
 seek-member-requires : tie.Need-seek-member-requires
 seek-member-requires c κs = search needs
@@ -31,13 +26,13 @@ returns : tie.Need-returns
 returns c =
     let a = c .before .before .before .before .before .args in
     let text = a .text .now in
-    ap (λ (x : Sought). elementFrom x (resourcePart (tokensAt text (a .row)) (behindRow text (a .row) (a .listed)))) (sym (c .before .before .before .seek-member .ensures) ∙ ap (told text) (c .before .enum-told .given .1)) ∙ c .resource .ensures
+    ap (λ (x : Sought). elementFrom x (resourceLeft text (a .row) (a .listed))) (sym (c .before .before .before .seek-member .ensures) ∙ ap (told text) (c .before .enum-told .given .1)) ∙ c .resource .ensures
 
 returns-2 : tie.Need-returns-2
 returns-2 c =
     let a = c .before .before .before .before .before .before .args in
     let text = a .text .now in
-    ap (λ (x : Sought). elementFrom x (resourcePart (tokensAt text (a .row)) (behindRow text (a .row) (a .listed)))) (sym (c .before .before .before .before .seek-member .ensures) ∙ ap (told text) (c .before .before .kind .given .1)) ∙ c .column .ensures
+    ap (λ (x : Sought). elementFrom x (resourceLeft text (a .row) (a .listed))) (sym (c .before .before .before .before .seek-member .ensures) ∙ ap (told text) (c .before .before .kind .given .1)) ∙ c .column .ensures
 
 pub action-spec : {M : Type 1} → statement M
 action-spec =

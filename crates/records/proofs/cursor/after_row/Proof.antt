@@ -1,12 +1,9 @@
-use mathlib.Core.Path.{_≡_, sym, _∙_, ap, subst}
+-- `records::cursor::after_row` meets its contract: the test is that of `behindRow`.
+use mathlib.Core.Path.{_∙_, ap}
 use Rattle.records.specs.machinery.Cursors.{behindRow}
 use borrow.Author.Needs.{needs}
 use Rattle.records.proofs.cursor.after_row.Statement.{statement}
 use Rattle.records.proofs.cursor.after_row.Tie as tie
-use Rattle.records.proofs.cursor.after_row.Reads as reads
-use Rattle.records.proofs.cursor.after_row.Lts as lts
-use Rattle.records.proofs.cursor.end.Reads as end-reads
-use Rattle.records.proofs.cursor.rows.Reads as rows-reads
 
 rows-requires : tie.Need-rows-requires
 rows-requires c κs = search needs

@@ -1,6 +1,7 @@
-use Prim.Native.Nat.{ℕ, suc, _+_, _-_, _≤_, _<_}
-use mathlib.Core.Path.{_≡_, refl, sym, _∙_, ap, subst}
-use lib.ListN.{length, drop}
+-- `records::cursor::column` meets its contract: place and column are those of `columnFrom`.
+use Prim.Native.Nat.{ℕ, _-_}
+use mathlib.Core.Path.{sym, _∙_, ap}
+use lib.ListN.{length}
 use Rattle.json.specs.machinery.Marks.{tokensAt}
 use mathlib.Core.List.{_∷_}
 use Rattle.stored.specs.Entries.Entry.{column}
@@ -10,14 +11,10 @@ use Rattle.records.specs.Documents.{columnAt}
 use Rattle.records.specs.Wishes.Wish.{made}
 use Rattle.records.specs.machinery.Streams as Streams
 use Rattle.records.specs.machinery.Streams.{valuesFrom}
-use Rattle.records.specs.machinery.Cursors.{behindRow, partsFrom}
+use Rattle.records.specs.machinery.Cursors.{partLeft}
 use borrow.Author.Needs.{needs}
 use Rattle.records.proofs.cursor.column.Statement.{statement}
 use Rattle.records.proofs.cursor.column.Tie as tie
-use Rattle.records.proofs.cursor.column.Reads as reads
-use Rattle.records.proofs.cursor.column.Lts as lts
-use Rattle.records.proofs.walking.place_from.Reads as place-from-reads
-use Rattle.records.proofs.wishes.column_at.Reads as column-at-reads
 
 column-at-requires : tie.Need-column-at-requires
 column-at-requires c κs = search needs
@@ -29,7 +26,7 @@ returns : tie.Need-returns
 returns c =
     let a = c .before .before .before .args in
     let text = a .text .now in
-    let rest = valuesFrom So.Text (partsFrom (tokensAt text (a .row)) (a .part) (behindRow text (a .row) (a .listed))) (tokensAt text (a .value)) Streams.Hold.outside in
+    let rest = valuesFrom So.Text (partLeft text (a .row) (a .listed) (a .part)) (tokensAt text (a .value)) Streams.Hold.outside in
     ap (λ (n : ℕ). made n (column (columnAt (a .kind))) ∷ rest) (c .place-from .ensures)
     ∙ ap (λ (x : Column). made (length text - c .place-from .result) (column x) ∷ rest) (sym (c .before .column-at .ensures))
 

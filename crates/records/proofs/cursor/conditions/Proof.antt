@@ -1,16 +1,11 @@
-use mathlib.Core.Path.{_≡_, sym, _∙_, ap, subst}
-use Rattle.json.specs.machinery.Marks.{tokensAt}
+-- `records::cursor::conditions` meets its contract: what the walk to the member finds is what `conditionFrom` goes by.
+use mathlib.Core.Path.{sym, _∙_, ap}
 use Rattle.records.specs.machinery.Walkers.{Sought, told}
 use Rattle.records.specs.machinery.Streams.{conditionFrom}
 use Rattle.records.specs.machinery.Cursors.{behindRow}
 use borrow.Author.Needs.{needs}
 use Rattle.records.proofs.cursor.conditions.Statement.{statement}
 use Rattle.records.proofs.cursor.conditions.Tie as tie
-use Rattle.records.proofs.cursor.conditions.Reads as reads
-use Rattle.records.proofs.cursor.conditions.Lts as lts
-use Rattle.records.proofs.cursor.after_row.Reads as after-row-reads
-use Rattle.records.proofs.cursor.conditions_at.Reads as conditions-at-reads
-use Rattle.records.proofs.walking.seek_member.Reads as seek-member-reads
 
 seek-member-requires : tie.Need-seek-member-requires
 seek-member-requires c κs = search needs

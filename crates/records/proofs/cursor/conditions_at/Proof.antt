@@ -1,12 +1,9 @@
-use mathlib.Core.Path.{_≡_, sym, _∙_, ap, subst}
+-- `records::cursor::conditions_at` meets its contract: the next wish of the conditions, or what comes behind the statement.
+use mathlib.Core.Path.{_∙_, ap}
 use Rattle.records.specs.machinery.Cursors.{behindRow, saidLeft}
 use borrow.Author.Needs.{needs}
 use Rattle.records.proofs.cursor.conditions_at.Statement.{statement}
 use Rattle.records.proofs.cursor.conditions_at.Tie as tie
-use Rattle.records.proofs.cursor.conditions_at.Reads as reads
-use Rattle.records.proofs.cursor.conditions_at.Lts as lts
-use Rattle.records.proofs.conditions.next_condition.Reads as next-condition-reads
-use Rattle.records.proofs.cursor.after_row.Reads as after-row-reads
 
 next-condition-requires : tie.Need-next-condition-requires
 next-condition-requires c κs = search needs

@@ -1,7 +1,6 @@
 -- A document is an object: of any other value there is no wish.
-
-use Prim.Native.Nat.{ℕ, suc, _+_, _-_, _≤_, _<_}
-use mathlib.Core.Path.{_≡_, sym, _∙_, ap, subst}
+use Prim.Native.Nat.{_+_, _-_}
+use mathlib.Core.Path.{_∙_, ap}
 use Rattle.json.specs.machinery.Marks.{tokensAt}
 use Rattle.records.specs.machinery.Streams.{documentFrom}
 use lib.ListN.{length, drop}
@@ -10,10 +9,6 @@ use Rattle.records.proofs.Wishing.{opened, opens}
 use borrow.Author.Needs.{needs}
 use Rattle.records.proofs.cursor.document.Statement.{statement}
 use Rattle.records.proofs.cursor.document.Tie as tie
-use Rattle.records.proofs.cursor.document.Reads as reads
-use Rattle.records.proofs.cursor.document.Lts as lts
-use Rattle.json.proofs.tokens.next_token.Reads as next-token-reads
-use Rattle.records.proofs.cursor.start.Reads as start-reads
 
 next-token-requires : tie.Need-next-token-requires
 next-token-requires c κs = search needs

@@ -1,14 +1,12 @@
+-- `records::cursor::end` meets its contract: the end of the text has no bytes left.
 use Prim.Native.Nat.{ℕ}
 use mathlib.Core.Path.{sym, ap}
 use mathlib.Core.List.{[], _∷_}
 use Rattle.stored.specs.Entries.Entry.{end}
 use Rattle.records.specs.Wishes.Wish.{made}
 use Rattle.records.proofs.Meeting.{nothing-left}
-use borrow.Author.Needs.{needs}
 use Rattle.records.proofs.cursor.end.Statement.{statement}
 use Rattle.records.proofs.cursor.end.Tie as tie
-use Rattle.records.proofs.cursor.end.Reads as reads
-use Rattle.records.proofs.cursor.end.Lts as lts
 
 returns : tie.Need-returns
 returns c =

@@ -1,9 +1,7 @@
+-- `records::cursor::first` meets its contract: the cursor is `firstCursor`.
 use borrow.Author.Needs.{needs}
 use Rattle.records.proofs.cursor.first.Statement.{statement}
 use Rattle.records.proofs.cursor.first.Tie as tie
-use Rattle.records.proofs.cursor.first.Reads as reads
-use Rattle.records.proofs.cursor.first.Lts as lts
-use Rattle.json.proofs.tokens.first_mark.Reads as first-mark-reads
 
 first-mark-requires : tie.Need-first-mark-requires
 first-mark-requires c κs = search needs

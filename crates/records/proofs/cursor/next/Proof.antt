@@ -1,4 +1,5 @@
-use mathlib.Core.Path.{_≡_, sym, _∙_, ap, subst}
+-- `records::cursor::next` meets its contract: a place behind the text's end says what its end says.
+use mathlib.Core.Path.{_∙_, ap}
 use Rattle.records.specs.machinery.Cursors.{wishesLeft, nextWishes}
 use mathlib.Core.List.{_∷_}
 use Rattle.records.specs.Wishes.{Wish}
@@ -6,10 +7,6 @@ use Rattle.records.proofs.Wishing.{clipped}
 use borrow.Author.Needs.{needs}
 use Rattle.records.proofs.cursor.next.Statement.{statement}
 use Rattle.records.proofs.cursor.next.Tie as tie
-use Rattle.records.proofs.cursor.next.Reads as reads
-use Rattle.records.proofs.cursor.next.Lts as lts
-use Rattle.records.proofs.cursor.wish_at.Reads as wish-at-reads
-use Rattle.records.proofs.cursor.within.Reads as within-reads
 
 wish-at-requires : tie.Need-wish-at-requires
 wish-at-requires c κs = search needs

@@ -1,16 +1,9 @@
-use mathlib.Core.Path.{_≡_, sym, _∙_, ap, subst}
-use Rattle.json.specs.machinery.Marks.{tokensAt}
-use Rattle.records.specs.machinery.Cursors.{behindRow, partsFrom}
-use Rattle.records.specs.declared.stages.Part.{Part}
+-- `records::cursor::parts` meets its contract: the arms are the clauses of `partLeft`.
+use mathlib.Core.Path.{_∙_, ap}
+use Rattle.records.specs.machinery.Cursors.{partLeft}
 use borrow.Author.Needs.{needs}
 use Rattle.records.proofs.cursor.parts.Statement.{statement}
 use Rattle.records.proofs.cursor.parts.Tie as tie
-use Rattle.records.proofs.cursor.parts.Reads as reads
-use Rattle.records.proofs.cursor.parts.Lts as lts
-use Rattle.records.proofs.cursor.action.Reads as action-reads
-use Rattle.records.proofs.cursor.conditions.Reads as conditions-reads
-use Rattle.records.proofs.cursor.principal.Reads as principal-reads
-use Rattle.records.proofs.cursor.resource.Reads as resource-reads
 
 enum-told : tie.Need-enum-told
 enum-told c = search needs
@@ -40,25 +33,25 @@ returns : tie.Need-returns
 returns c =
     let a = c .before .before .before .before .args in
     let text = a .text .now in
-    ap (λ (p : Part). partsFrom (tokensAt text (a .row)) p (behindRow text (a .row) (a .listed))) (c .before .enum-told .given .1) ∙ c .principal .ensures
+    ap (partLeft text (a .row) (a .listed)) (c .before .enum-told .given .1) ∙ c .principal .ensures
 
 returns-2 : tie.Need-returns-2
 returns-2 c =
     let a = c .before .before .before .before .args in
     let text = a .text .now in
-    ap (λ (p : Part). partsFrom (tokensAt text (a .row)) p (behindRow text (a .row) (a .listed))) (c .before .enum-told2 .given .1) ∙ c .action .ensures
+    ap (partLeft text (a .row) (a .listed)) (c .before .enum-told2 .given .1) ∙ c .action .ensures
 
 returns-3 : tie.Need-returns-3
 returns-3 c =
     let a = c .before .before .before .before .args in
     let text = a .text .now in
-    ap (λ (p : Part). partsFrom (tokensAt text (a .row)) p (behindRow text (a .row) (a .listed))) (c .before .enum-told3 .given .1) ∙ c .resource .ensures
+    ap (partLeft text (a .row) (a .listed)) (c .before .enum-told3 .given .1) ∙ c .resource .ensures
 
 returns-4 : tie.Need-returns-4
 returns-4 c =
     let a = c .before .before .before .before .args in
     let text = a .text .now in
-    ap (λ (p : Part). partsFrom (tokensAt text (a .row)) p (behindRow text (a .row) (a .listed))) (c .before .enum-told4 .given .1) ∙ c .conditions .ensures
+    ap (partLeft text (a .row) (a .listed)) (c .before .enum-told4 .given .1) ∙ c .conditions .ensures
 
 pub parts-spec : {M : Type 1} → statement M
 parts-spec =

@@ -1,4 +1,5 @@
-use mathlib.Core.Path.{_≡_, sym, _∙_, ap, subst}
+-- `records::cursor::rows` meets its contract: the statements from the next one on, by `rows-in`.
+use mathlib.Core.Path.{sym, _∙_, ap}
 use Rattle.json.specs.machinery.Marks.{tokensAt}
 use Rattle.records.specs.machinery.Cursors.{last}
 use Rattle.records.specs.machinery.Rows.{sighted}
@@ -6,11 +7,6 @@ use Rattle.records.proofs.Sighting.{rowsBy, rows-in}
 use borrow.Author.Needs.{needs}
 use Rattle.records.proofs.cursor.rows.Statement.{statement}
 use Rattle.records.proofs.cursor.rows.Tie as tie
-use Rattle.records.proofs.cursor.rows.Reads as reads
-use Rattle.records.proofs.cursor.rows.Lts as lts
-use Rattle.records.proofs.cursor.end.Reads as end-reads
-use Rattle.records.proofs.cursor.statement.Reads as statement-reads
-use Rattle.records.proofs.rows.next_row.Reads as next-row-reads
 
 next-row-requires : tie.Need-next-row-requires
 next-row-requires c κs = search needs

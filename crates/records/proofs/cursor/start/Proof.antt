@@ -1,5 +1,6 @@
-use Prim.Native.Nat.{ℕ, suc, _+_, _-_, _≤_, _<_}
-use mathlib.Core.Path.{_≡_, sym, _∙_, ap, subst}
+-- `records::cursor::start` meets its contract: what the walk to the member finds is what `statementFrom` goes by.
+use Prim.Native.Nat.{ℕ, _-_}
+use mathlib.Core.Path.{sym, _∙_, ap}
 use Rattle.json.specs.machinery.Marks.{tokensAt}
 use Rattle.records.specs.machinery.Walkers.{told}
 use Rattle.records.specs.machinery.Streams.{rowsFrom, countFrom, statementFrom}
@@ -13,11 +14,6 @@ use Rattle.records.proofs.Meeting.{nothing-left}
 use borrow.Author.Needs.{needs}
 use Rattle.records.proofs.cursor.start.Statement.{statement}
 use Rattle.records.proofs.cursor.start.Tie as tie
-use Rattle.records.proofs.cursor.start.Reads as reads
-use Rattle.records.proofs.cursor.start.Lts as lts
-use Rattle.records.proofs.rows.count_rows.Reads as count-rows-reads
-use Rattle.records.proofs.walking.place_from.Reads as place-from-reads
-use Rattle.records.proofs.walking.seek_member.Reads as seek-member-reads
 
 seek-member-requires : tie.Need-seek-member-requires
 seek-member-requires c κs = search needs

@@ -1,13 +1,9 @@
-use mathlib.Core.Path.{_≡_, sym, _∙_, ap, subst}
-use Rattle.json.specs.machinery.Marks.{tokensAt}
-use Rattle.records.specs.machinery.Cursors.{behindRow, partsFrom, stringsLeft}
+-- `records::cursor::values` meets its contract: the next string, or the part behind the element.
+use mathlib.Core.Path.{_∙_, ap}
+use Rattle.records.specs.machinery.Cursors.{partLeft, stringsLeft}
 use borrow.Author.Needs.{needs}
 use Rattle.records.proofs.cursor.values.Statement.{statement}
 use Rattle.records.proofs.cursor.values.Tie as tie
-use Rattle.records.proofs.cursor.values.Reads as reads
-use Rattle.records.proofs.cursor.values.Lts as lts
-use Rattle.records.proofs.cursor.parts.Reads as parts-reads
-use Rattle.records.proofs.values.next_string.Reads as next-string-reads
 
 next-string-requires : tie.Need-next-string-requires
 next-string-requires c κs = search needs
@@ -31,28 +27,28 @@ returns : tie.Need-returns
 returns c =
     let a = c .before .before .before .before .before .args in
     let text = a .text .now in
-    let rest = partsFrom (tokensAt text (a .row)) (a .part) (behindRow text (a .row) (a .listed)) in
+    let rest = partLeft text (a .row) (a .listed) (a .part) in
     c .before .before .before .next-string .ensures rest ∙ ap (stringsLeft text rest) (c .before .place .given .1)
 
 returns-2 : tie.Need-returns-2
 returns-2 c =
     let a = c .before .before .before .before .before .args in
     let text = a .text .now in
-    let rest = partsFrom (tokensAt text (a .row)) (a .part) (behindRow text (a .row) (a .listed)) in
+    let rest = partLeft text (a .row) (a .listed) (a .part) in
     c .before .before .before .next-string .ensures rest ∙ ap (stringsLeft text rest) (c .before .place2 .given .1)
 
 returns-3 : tie.Need-returns-3
 returns-3 c =
     let a = c .before .before .before .before .before .args in
     let text = a .text .now in
-    let rest = partsFrom (tokensAt text (a .row)) (a .part) (behindRow text (a .row) (a .listed)) in
+    let rest = partLeft text (a .row) (a .listed) (a .part) in
     c .before .before .before .next-string .ensures rest ∙ ap (stringsLeft text rest) (c .before .place3 .given .1)
 
 returns-4 : tie.Need-returns-4
 returns-4 c =
     let a = c .before .before .before .before .before .args in
     let text = a .text .now in
-    let rest = partsFrom (tokensAt text (a .row)) (a .part) (behindRow text (a .row) (a .listed)) in
+    let rest = partLeft text (a .row) (a .listed) (a .part) in
     c .before .before .before .next-string .ensures rest ∙ ap (stringsLeft text rest) (c .before .enum-told .given .1) ∙ c .parts .ensures
 
 pub values-spec : {M : Type 1} → statement M

@@ -1,16 +1,9 @@
-use mathlib.Core.Path.{_≡_, sym, _∙_, ap, subst}
+-- `records::cursor::wish_at` meets its contract: the arms are the clauses of `stageLeft`.
+use mathlib.Core.Path.{_∙_, ap}
 use Rattle.records.specs.machinery.Cursors.{stageLeft}
 use borrow.Author.Needs.{needs}
 use Rattle.records.proofs.cursor.wish_at.Statement.{statement}
 use Rattle.records.proofs.cursor.wish_at.Tie as tie
-use Rattle.records.proofs.cursor.wish_at.Reads as reads
-use Rattle.records.proofs.cursor.wish_at.Lts as lts
-use Rattle.records.proofs.cursor.conditions_at.Reads as conditions-at-reads
-use Rattle.records.proofs.cursor.document.Reads as document-reads
-use Rattle.records.proofs.cursor.end.Reads as end-reads
-use Rattle.records.proofs.cursor.parts.Reads as parts-reads
-use Rattle.records.proofs.cursor.rows.Reads as rows-reads
-use Rattle.records.proofs.cursor.values.Reads as values-reads
 
 enum-told : tie.Need-enum-told
 enum-told c = search needs

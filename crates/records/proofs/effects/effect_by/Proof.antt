@@ -1,10 +1,7 @@
-use mathlib.Core.Path.{sym, _∙_}
+-- `records::effects::effect_by` meets its contract: the arms are the clauses of `effectBy`.
 use borrow.Author.Needs.{needs}
 use Rattle.records.proofs.effects.effect_by.Statement.{statement}
 use Rattle.records.proofs.effects.effect_by.Tie as tie
-use Rattle.records.proofs.effects.effect_by.Reads as reads
-use Rattle.records.proofs.effects.effect_by.Lts as lts
-use Rattle.records.proofs.effects.effect_said.Reads as effect-said-reads
 
 enum-told : tie.Need-enum-told
 enum-told c = search needs

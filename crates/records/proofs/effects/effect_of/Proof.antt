@@ -1,14 +1,11 @@
-use mathlib.Core.Path.{_≡_, sym, _∙_, ap, subst}
+-- `records::effects::effect_of` meets its contract: what the walk to the member finds is what `effectFrom` goes by.
+use mathlib.Core.Path.{sym, _∙_, ap}
 use Rattle.records.specs.machinery.Walkers.{told}
 use Rattle.records.specs.machinery.Streams.{effectFrom}
 use Rattle.records.proofs.Wishing.{no-effect-left}
 use borrow.Author.Needs.{needs}
 use Rattle.records.proofs.effects.effect_of.Statement.{statement}
 use Rattle.records.proofs.effects.effect_of.Tie as tie
-use Rattle.records.proofs.effects.effect_of.Reads as reads
-use Rattle.records.proofs.effects.effect_of.Lts as lts
-use Rattle.records.proofs.effects.effect_on.Reads as effect-on-reads
-use Rattle.records.proofs.walking.seek_member.Reads as seek-member-reads
 
 seek-member-requires : tie.Need-seek-member-requires
 seek-member-requires c κs = search needs

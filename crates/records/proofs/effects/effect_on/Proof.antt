@@ -1,9 +1,10 @@
-use Prim.Native.Nat.{ℕ, suc, _+_, _-_, _≤_, _<_}
-use mathlib.Core.Path.{_≡_, refl, sym, _∙_, ap, subst}
+-- `records::effects::effect_on` meets its contract: the effect of the next token, by `effect-met`.
+use Prim.Native.Nat.{_+_, _-_}
+use mathlib.Core.Path.{sym, _∙_, ap}
 use native.Mathlib.Omega.{arith}
-use lib.ListN.{length, drop}
+use lib.ListN.{drop}
 use Rattle.json.specs.machinery.Marks.{tokensAt}
-use Rattle.records.proofs.Meeting.{met-none, met-token, met-ahead, nothing-left, next-place}
+use Rattle.records.proofs.Meeting.{met-none, met-token, met-ahead}
 use Rattle.records.specs.machinery.Streams.{effectOn}
 use Rattle.records.specs.machinery.Cursors.{wishOf}
 use Rattle.records.specs.declared.wishes.Wish as Code
@@ -11,10 +12,6 @@ use Rattle.records.proofs.Wishing.{no-effect-left, effect-met}
 use borrow.Author.Needs.{needs}
 use Rattle.records.proofs.effects.effect_on.Statement.{statement}
 use Rattle.records.proofs.effects.effect_on.Tie as tie
-use Rattle.records.proofs.effects.effect_on.Reads as reads
-use Rattle.records.proofs.effects.effect_on.Lts as lts
-use Rattle.json.proofs.tokens.next_token.Reads as next-token-reads
-use Rattle.records.proofs.effects.effect_by.Reads as effect-by-reads
 
 next-token-requires : tie.Need-next-token-requires
 next-token-requires c κs = search needs

@@ -1,11 +1,9 @@
+-- `records::effects::effect_said` meets its contract: the tests come in the order of `effectSaid`.
 use Rattle.records.specs.Documents.{allowText, denyText}
 use mathlib.Core.Path.{sym, _∙_}
 use borrow.Author.Needs.{needs}
 use Rattle.records.proofs.effects.effect_said.Statement.{statement}
 use Rattle.records.proofs.effects.effect_said.Tie as tie
-use Rattle.records.proofs.effects.effect_said.Reads as reads
-use Rattle.records.proofs.effects.effect_said.Lts as lts
-use Rattle.json.proofs.pieces.string_is.Reads as string-is-reads
 
 slice-aggregate-string-is : tie.Need-slice-aggregate-string-is
 slice-aggregate-string-is c = search needs

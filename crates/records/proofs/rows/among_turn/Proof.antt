@@ -1,12 +1,7 @@
-use mathlib.Core.Path.{sym, _∙_}
+-- `records::rows::among_turn` meets its contract: the arms are the clauses of `amongTurn`.
 use borrow.Author.Needs.{needs}
 use Rattle.records.proofs.rows.among_turn.Statement.{statement}
 use Rattle.records.proofs.rows.among_turn.Tie as tie
-use Rattle.records.proofs.rows.among_turn.Reads as reads
-use Rattle.records.proofs.rows.among_turn.Lts as lts
-use Rattle.records.proofs.rows.deeper.Reads as deeper-reads
-use Rattle.records.proofs.rows.higher.Reads as higher-reads
-use Rattle.records.proofs.rows.object.Reads as object-reads
 
 enum-told : tie.Need-enum-told
 enum-told c = search needs

@@ -1,7 +1,6 @@
 -- The invariant: the statements counted and those from the place at hand on are all of them.
-
 use Prim.{tt}
-use Prim.Native.Nat.{ℕ, suc, _+_, _-_, _≤_, _<_}
+use Prim.Native.Nat.{suc, _+_, _-_, _≤_}
 use mathlib.Core.Path.{_≡_, sym, _∙_, ap, subst}
 use Rattle.json.specs.machinery.Marks.{tokensAt}
 use mathlib.Core.Bool.{Bool}
@@ -15,9 +14,6 @@ use Rattle.records.proofs.Sighting.{countBy, count-in}
 use borrow.Author.Needs.{needs}
 use Rattle.records.proofs.rows.count_rows.Statement.{statement}
 use Rattle.records.proofs.rows.count_rows.Tie as tie
-use Rattle.records.proofs.rows.count_rows.Reads as reads
-use Rattle.records.proofs.rows.count_rows.Lts as lts
-use Rattle.records.proofs.rows.next_row.Reads as next-row-reads
 
 abbrev Inv-loop : tie.InvT-loop
 Inv-loop text here₀ among₀ count₀ here among count =

@@ -1,12 +1,10 @@
-use mathlib.Core.Path.{_≡_, refl, sym, _∙_, ap, subst}
+-- `records::rows::deeper` meets its contract: the arms are the clauses of `deeper`.
+use mathlib.Core.Path.{subst}
 use native.Mathlib.Omega.{arith}
 use Rattle.records.specs.machinery.Rows.{AtMost}
-use mathlib.Core.Path.{sym, _∙_}
 use borrow.Author.Needs.{needs}
 use Rattle.records.proofs.rows.deeper.Statement.{statement}
 use Rattle.records.proofs.rows.deeper.Tie as tie
-use Rattle.records.proofs.rows.deeper.Reads as reads
-use Rattle.records.proofs.rows.deeper.Lts as lts
 
 enum-told : tie.Need-enum-told
 enum-told c = search needs

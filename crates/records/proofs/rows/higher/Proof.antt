@@ -1,10 +1,8 @@
-use mathlib.Core.Path.{sym, _∙_}
+-- `records::rows::higher` meets its contract: the arms are the clauses of `higher`.
 use borrow.Author.Tests.{eq-eqb, ne-eqb}
 use borrow.Author.Needs.{needs}
 use Rattle.records.proofs.rows.higher.Statement.{statement}
 use Rattle.records.proofs.rows.higher.Tie as tie
-use Rattle.records.proofs.rows.higher.Reads as reads
-use Rattle.records.proofs.rows.higher.Lts as lts
 
 enum-told : tie.Need-enum-told
 enum-told c = search needs

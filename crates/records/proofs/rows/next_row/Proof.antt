@@ -1,21 +1,17 @@
 -- The invariant: from the place at hand the walk finds the statement that it finds from its beginning.
-use Prim.Native.Nat.{ℕ, suc, _+_, _-_, _≤_, _<_}
+use Prim.Native.Nat.{_+_, _-_, _≤_}
 use mathlib.Core.Path.{_≡_, refl, sym, _∙_, ap, subst}
 use native.Mathlib.Omega.{arith}
 use lib.ListN.{length, drop}
 use Rattle.json.specs.machinery.Marks.{tokensAt}
-use Rattle.records.proofs.Meeting.{met-none, met-token, met-ahead, nothing-left, next-place}
+use Rattle.records.proofs.Meeting.{met-none, met-token, met-ahead}
 use mathlib.Core.List.{List}
 use Rattle.json.specs.machinery.Tokens.{Token}
-use Rattle.records.specs.machinery.Rows.{AtMost, amongTurn, rowIn}
+use Rattle.records.specs.machinery.Rows.{AtMost, rowIn}
 use Rattle.records.proofs.Sighting.{Shallow, shallow, at-most, sights}
 use borrow.Author.Needs.{needs}
 use Rattle.records.proofs.rows.next_row.Statement.{statement}
 use Rattle.records.proofs.rows.next_row.Tie as tie
-use Rattle.records.proofs.rows.next_row.Reads as reads
-use Rattle.records.proofs.rows.next_row.Lts as lts
-use Rattle.json.proofs.tokens.next_token.Reads as next-token-reads
-use Rattle.records.proofs.rows.among_turn.Reads as among-turn-reads
 
 abbrev Inv-loop : tie.InvT-loop
 Inv-loop text here₀ among₀ here among =

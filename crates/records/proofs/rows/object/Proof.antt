@@ -1,11 +1,10 @@
-use mathlib.Core.Path.{_≡_, sym, _∙_, ap, subst}
+-- `records::rows::object` meets its contract: the arms are the clauses of `object`.
+use mathlib.Core.Path.{subst}
 use native.Mathlib.Omega.{arith}
 use Rattle.records.specs.machinery.Rows.{AtMost}
 use borrow.Author.Needs.{needs}
 use Rattle.records.proofs.rows.object.Statement.{statement}
 use Rattle.records.proofs.rows.object.Tie as tie
-use Rattle.records.proofs.rows.object.Reads as reads
-use Rattle.records.proofs.rows.object.Lts as lts
 
 enum-told : tie.Need-enum-told
 enum-told c = search needs

@@ -1,9 +1,7 @@
-use mathlib.Core.Path.{sym, _∙_}
+-- `records::values::heard_end` meets its contract: the arms are the clauses of `heardEnd`.
 use borrow.Author.Needs.{needs}
 use Rattle.records.proofs.values.heard_end.Statement.{statement}
 use Rattle.records.proofs.values.heard_end.Tie as tie
-use Rattle.records.proofs.values.heard_end.Reads as reads
-use Rattle.records.proofs.values.heard_end.Lts as lts
 
 enum-told : tie.Need-enum-told
 enum-told c = search needs

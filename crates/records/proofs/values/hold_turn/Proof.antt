@@ -1,11 +1,7 @@
-use mathlib.Core.Path.{sym, _∙_}
+-- `records::values::hold_turn` meets its contract: the arms are the clauses of `holdTurn`.
 use borrow.Author.Needs.{needs}
 use Rattle.records.proofs.values.hold_turn.Statement.{statement}
 use Rattle.records.proofs.values.hold_turn.Tie as tie
-use Rattle.records.proofs.values.hold_turn.Reads as reads
-use Rattle.records.proofs.values.hold_turn.Lts as lts
-use Rattle.records.proofs.values.heard_end.Reads as heard-end-reads
-use Rattle.records.proofs.values.heard_string.Reads as heard-string-reads
 
 enum-told : tie.Need-enum-told
 enum-told c = search needs

@@ -1,24 +1,20 @@
 -- The invariant: the wishes from the place at hand are those from the beginning of the walk; no string was passed over.
-use Prim.Native.Nat.{ℕ, suc, _+_, _-_, _≤_, _<_}
-use mathlib.Core.Path.{_≡_, refl, sym, _∙_, ap, subst}
+use Prim.Native.Nat.{_-_}
+use mathlib.Core.Path.{_≡_, refl, sym, _∙_, ap}
 use native.Mathlib.Omega.{arith}
-use lib.ListN.{length, drop}
+use lib.ListN.{length}
 use Rattle.json.specs.machinery.Marks.{tokensAt}
-use Rattle.records.proofs.Meeting.{met-none, met-token, met-ahead, nothing-left, next-place}
+use Rattle.records.proofs.Meeting.{met-none, met-token, met-ahead}
 use mathlib.Core.List.{List}
 use Rattle.json.specs.machinery.Tokens.{Token}
 use Rattle.stored.specs.declared.items.Sort.the-variants as So
 use Rattle.records.specs.Wishes.{Wish}
 use Rattle.records.specs.machinery.Streams.{valuesFrom}
-use Rattle.records.specs.machinery.Cursors.{holdOf, holdTurn}
+use Rattle.records.specs.machinery.Cursors.{holdOf}
 use Rattle.records.proofs.Hearing.{hears}
 use borrow.Author.Needs.{needs}
 use Rattle.records.proofs.values.next_string.Statement.{statement}
 use Rattle.records.proofs.values.next_string.Tie as tie
-use Rattle.records.proofs.values.next_string.Reads as reads
-use Rattle.records.proofs.values.next_string.Lts as lts
-use Rattle.json.proofs.tokens.next_token.Reads as next-token-reads
-use Rattle.records.proofs.values.hold_turn.Reads as hold-turn-reads
 
 abbrev Inv-loop : tie.InvT-loop
 Inv-loop text here₀ hold₀ here hold =

@@ -1,10 +1,8 @@
-use mathlib.Core.Path.{sym, _∙_}
+-- `records::walking::at_close` meets its contract: the test is that of `seekTurn` at a closing bracket.
 use borrow.Author.Tests.{eq-eqb, ne-eqb}
 use borrow.Author.Needs.{needs}
 use Rattle.records.proofs.walking.at_close.Statement.{statement}
 use Rattle.records.proofs.walking.at_close.Tie as tie
-use Rattle.records.proofs.walking.at_close.Reads as reads
-use Rattle.records.proofs.walking.at_close.Lts as lts
 
 returns : tie.Need-returns
 returns c = simp (eq-eqb _ _ (c .if1 .taken))

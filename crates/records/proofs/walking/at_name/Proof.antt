@@ -1,12 +1,9 @@
+-- `records::walking::at_name` meets its contract: the tests come in the order of `seekTurn` at a name.
 use mathlib.Core.Path.{sym, _∙_}
 use borrow.Author.Tests.{eq-eqb, ne-eqb}
 use borrow.Author.Needs.{needs}
 use Rattle.records.proofs.walking.at_name.Statement.{statement}
 use Rattle.records.proofs.walking.at_name.Tie as tie
-use Rattle.records.proofs.walking.at_name.Reads as reads
-use Rattle.records.proofs.walking.at_name.Lts as lts
-use Rattle.records.proofs.walking.kind_in.Reads as kind-in-reads
-use Rattle.records.proofs.walking.slot_in.Reads as slot-in-reads
 
 kind-in-requires : tie.Need-kind-in-requires
 kind-in-requires c κs = search needs

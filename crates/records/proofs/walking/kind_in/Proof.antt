@@ -1,11 +1,7 @@
-use mathlib.Core.Path.{sym, _∙_}
+-- `records::walking::kind_in` meets its contract: the arms are the clauses of `kindIn`.
 use borrow.Author.Needs.{needs}
 use Rattle.records.proofs.walking.kind_in.Statement.{statement}
 use Rattle.records.proofs.walking.kind_in.Tie as tie
-use Rattle.records.proofs.walking.kind_in.Reads as reads
-use Rattle.records.proofs.walking.kind_in.Lts as lts
-use Rattle.members.proofs.names.row_kind.Reads as row-kind-reads
-use Rattle.members.proofs.names.top_kind.Reads as top-kind-reads
 
 enum-told : tie.Need-enum-told
 enum-told c = search needs

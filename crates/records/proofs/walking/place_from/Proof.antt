@@ -1,6 +1,6 @@
-use Prim.Native.Nat.{ℕ, suc, _+_, _-_, _≤_, _<_}
-use mathlib.Core.Path.{_≡_, refl, sym, _∙_, ap, subst}
-use native.Mathlib.Omega.{arith}
+-- `records::walking::place_from` meets its contract: the place of the next token, by `next-place`.
+use Prim.Native.Nat.{_+_, _-_}
+use mathlib.Core.Path.{sym, _∙_, ap}
 use lib.ListN.{length, drop}
 use Rattle.json.specs.machinery.Marks.{tokensAt}
 use Rattle.records.proofs.Meeting.{met-none, met-token, met-ahead, nothing-left, next-place}
@@ -8,9 +8,6 @@ use Rattle.records.specs.machinery.Walkers.{nextPlace}
 use borrow.Author.Needs.{needs}
 use Rattle.records.proofs.walking.place_from.Statement.{statement}
 use Rattle.records.proofs.walking.place_from.Tie as tie
-use Rattle.records.proofs.walking.place_from.Reads as reads
-use Rattle.records.proofs.walking.place_from.Lts as lts
-use Rattle.json.proofs.tokens.next_token.Reads as next-token-reads
 
 next-token-requires : tie.Need-next-token-requires
 next-token-requires c κs = search needs

@@ -1,23 +1,19 @@
 -- The invariant: from the place and depth at hand the walk finds what it finds from its beginning.
-use Prim.Native.Nat.{ℕ, suc, _+_, _-_, _≤_, _<_}
-use mathlib.Core.Path.{_≡_, refl, sym, _∙_, ap, subst}
+use Prim.Native.Nat.{_+_, _-_, _≤_}
+use mathlib.Core.Path.{_≡_, sym, _∙_, ap, subst}
 use native.Mathlib.Omega.{arith}
 use lib.ListN.{length, drop}
 use Rattle.json.specs.machinery.Marks.{tokensAt}
-use Rattle.records.proofs.Meeting.{met-none, met-token, met-ahead, nothing-left, next-place}
+use Rattle.records.proofs.Meeting.{met-none, met-token, met-ahead}
 use mathlib.Core.List.{List}
 use Rattle.json.specs.machinery.Pieces.{contentOf}
 use Rattle.json.specs.machinery.Tokens.{Token}
-use Rattle.records.specs.machinery.Walkers.{seekTurn, seek}
+use Rattle.records.specs.machinery.Walkers.{seek}
 use Rattle.records.specs.declared.walking.Moved.{Moved}
 use Rattle.records.proofs.Seeking.{depthOf, near, moves}
 use borrow.Author.Needs.{needs}
 use Rattle.records.proofs.walking.seek_member.Statement.{statement}
 use Rattle.records.proofs.walking.seek_member.Tie as tie
-use Rattle.records.proofs.walking.seek_member.Reads as reads
-use Rattle.records.proofs.walking.seek_member.Lts as lts
-use Rattle.json.proofs.tokens.next_token.Reads as next-token-reads
-use Rattle.records.proofs.walking.seek_turn.Reads as seek-turn-reads
 
 abbrev Inv-loop : tie.InvT-loop
 Inv-loop text table slot here₀ depth₀ here depth =

@@ -1,11 +1,7 @@
-use mathlib.Core.Path.{sym, _∙_}
+-- `records::walking::seek_turn` meets its contract: the arms are the clauses of `seekTurn`.
 use borrow.Author.Needs.{needs}
 use Rattle.records.proofs.walking.seek_turn.Statement.{statement}
 use Rattle.records.proofs.walking.seek_turn.Tie as tie
-use Rattle.records.proofs.walking.seek_turn.Reads as reads
-use Rattle.records.proofs.walking.seek_turn.Lts as lts
-use Rattle.records.proofs.walking.at_close.Reads as at-close-reads
-use Rattle.records.proofs.walking.at_name.Reads as at-name-reads
 
 enum-told : tie.Need-enum-told
 enum-told c = search needs

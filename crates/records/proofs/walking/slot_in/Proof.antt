@@ -1,10 +1,7 @@
-use mathlib.Core.Path.{sym, _∙_}
+-- `records::walking::slot_in` meets its contract: the arms are the clauses of `slotIn`.
 use borrow.Author.Needs.{needs}
 use Rattle.records.proofs.walking.slot_in.Statement.{statement}
 use Rattle.records.proofs.walking.slot_in.Tie as tie
-use Rattle.records.proofs.walking.slot_in.Reads as reads
-use Rattle.records.proofs.walking.slot_in.Lts as lts
-use Rattle.members.proofs.marks.row_slot.Reads as row-slot-reads
 
 enum-told : tie.Need-enum-told
 enum-told c = search needs

@@ -1,10 +1,7 @@
-use mathlib.Core.Path.{sym, _∙_}
+-- `records::wishes::key_at` meets its contract: the tests come in the order of `keyAt`.
 use borrow.Author.Tests.{eq-eqb, ne-eqb}
-use borrow.Author.Needs.{needs}
 use Rattle.records.proofs.wishes.key_at.Statement.{statement}
 use Rattle.records.proofs.wishes.key_at.Tie as tie
-use Rattle.records.proofs.wishes.key_at.Reads as reads
-use Rattle.records.proofs.wishes.key_at.Lts as lts
 
 returns : tie.Need-returns
 returns c = simp (eq-eqb _ _ (c .if1 .taken))

@@ -1,12 +1,10 @@
+-- `records::wishes::string_kind` meets its contract: the sort is that of the operator's row.
 use mathlib.Core.Path.{sym, _∙_, ap}
 use Rattle.stored.specs.declared.operators.OperatorRow.{OperatorRow}
 use Rattle.records.specs.machinery.Cursors.{stringKind}
 use borrow.Author.Needs.{needs}
 use Rattle.records.proofs.wishes.string_kind.Statement.{statement}
 use Rattle.records.proofs.wishes.string_kind.Tie as tie
-use Rattle.records.proofs.wishes.string_kind.Reads as reads
-use Rattle.records.proofs.wishes.string_kind.Lts as lts
-use Rattle.stored.proofs.operators.operator_row.Reads as operator-row-reads
 
 operator-row-requires : tie.Need-operator-row-requires
 operator-row-requires c κs = search needs
