@@ -1,12 +1,12 @@
 -- The dry run, one wish after the other.
-use Prim.Native.Nat.{ℕ, _+_, _-_, _≤_, _<_}
+use Prim.Native.Nat.{ℕ, _+_, _-_, _≤_}
 use mathlib.Core.Bool.{Bool, true, false}
 use mathlib.Core.Path.{_≡_, refl, sym, _∙_, ap}
 use mathlib.Core.List.{List, [], _∷_}
 use native.Mathlib.Omega.{arith}
 use lib.Dec.{ltb}
 use lib.ListN.{length, drop}
-use borrow.Author.Tests.{lt-ltb, le-ltb, ltb-true, ltb-false}
+use borrow.Author.Tests.{lt-ltb, ltb-true, ltb-false}
 use Rattle.json.specs.Choice.{pick}
 use Rattle.json.specs.machinery.Pieces.{contentOf}
 use Rattle.stored.specs.Writing.{wouldTake}
@@ -14,6 +14,7 @@ use Rattle.stored.specs.declared.machine.State.{State}
 use Rattle.stored.specs.declared.machine.Turn.{Turn}
 use Rattle.stored.specs.declared.machine.Turn.the-variants as T
 use Rattle.stored.specs.declared.writer.Would.the-variants as O
+use Rattle.stored.proofs.Choosing.{never}
 use Rattle.members.specs.Members.{Verdict}
 use Rattle.members.specs.Members.Verdict.{fine, refused}
 use Rattle.records.specs.Networks as N
@@ -26,7 +27,6 @@ use Rattle.records.specs.declared.wishes.Wish as Code
 use Rattle.records.specs.declared.wishes.Wish.the-variants as W
 use Rattle.policy.specs.machinery.Asking.{wishRecord, wishWould}
 use Rattle.policy.specs.machinery.Runs.{capped, dried, driedFrom}
-use Rattle.policy.specs.declared.trying.Dried.{Dried}
 use Rattle.policy.specs.declared.trying.Dried.the-variants as D
 
 -- sums that are told up to 16,385
@@ -84,13 +84,14 @@ takes-on t x ws s next size more h = by (wishTurn s x) h
         let f : size + (wishSize x + sizeOf ws) ≡ size + m + sizeOf ws = omega (arith, size-record x) in
         ap D.Fine (ap capped f ∙ sym (capped-sum (size + m) (sizeOf ws)))
     same (refused k n) m e = refl
+
     by : (u : Turn) → wouldTake u (length (wishRecord x)) ≡ O.Takes next more
         → dried (length t) (size + (wishSize x + sizeOf ws)) (afterWish (running ws) (wishPlace x) u) ≡ dried (length t) (capped (size + more) + sizeOf ws) (running ws next)
     by (T.Next n) e =
         let a : n ≡ next = cc in
         let b : more ≡ length (wishRecord x) = cc in
         rw a (same (running ws next) more b)
-    by (T.Refused k) e = absurd (let z : _≡_ {A = ℕ} 0 1 = cc in omega arith)
+    by (T.Refused k) e = never (cc)
 
 -- a wish that would be refused, by its place in the text
 pub stops : (t : List ℕ) (w : Code.Wish) (p : ℕ) (ws : List Wish) (s : State) (size k : ℕ) → p ≤ length t → wishWould s (wishOf t w p) ≡ O.Refused k
@@ -100,9 +101,10 @@ stops t w p ws s size k h f = by (wishTurn s (wishOf t w p)) f
   where
     there : length t - wishPlace (wishOf t w p) ≡ p
     there = rw (place-of t w p) (omega arith)
+
     by : (u : Turn) → wouldTake u (length (wishRecord (wishOf t w p))) ≡ O.Refused k
         → dried (length t) (size + sizeOf (wishOf t w p ∷ ws)) (afterWish (running ws) (wishPlace (wishOf t w p)) u) ≡ D.Refused k p
-    by (T.Next n) e = absurd (let z : _≡_ {A = ℕ} 0 1 = cc in omega arith)
+    by (T.Next n) e = never (cc)
     by (T.Refused m) e =
         let a : m ≡ k = cc in
         rw (a, there)

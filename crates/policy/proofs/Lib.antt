@@ -6,6 +6,7 @@ pub mod Standing
 pub mod FirstWishes
 pub mod DryRuns
 pub mod Pouring
-pub mod Outcoming
+pub mod Answering
+pub mod NetworksAre
 pub mod Numbers
 pub mod Promises

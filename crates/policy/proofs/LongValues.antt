@@ -1,8 +1,8 @@
 -- A value of over 128 bytes is refused whatever its bytes are, so that its first 129 stand for it.
-use Prim.Native.Nat.{ℕ, _+_, _≤_, _<_}
+use Prim.Native.Nat.{ℕ, _<_}
 use mathlib.Core.Bool.{Bool, true, false, _&&_, _||_, not}
-use mathlib.Core.Path.{_≡_, refl, sym, _∙_, ap}
-use mathlib.Core.List.{List, [], _∷_, _++_}
+use mathlib.Core.Path.{_≡_, refl, sym, _∙_}
+use mathlib.Core.List.{List}
 use native.Mathlib.Omega.{arith}
 use lib.Dec.{eqb, leb, ltb}
 use lib.ListN.{length, take}
@@ -19,6 +19,7 @@ use Rattle.stored.specs.declared.machine.Phase.the-variants as P
 use Rattle.stored.specs.declared.machine.State.{State}
 use Rattle.stored.specs.declared.machine.Turn.{Turn}
 use Rattle.stored.specs.declared.machine.Turn.the-variants as T
+use Rattle.stored.proofs.Choosing.{never}
 
 same-kind : (p : Phase) (left n : ℕ) → takesKind p left (K.Value n) ≡ takesKind p left (K.Value 0)
 same-kind P.Fresh left n = refl
@@ -74,4 +75,4 @@ taken-whole s next bs h = by (leb (length bs) 128) refl
     by true e = take-all 129 bs (omega (arith, leb-true (length bs) 128 e))
     by false e =
         let no : T.Refused (longNumber s) ≡ T.Next next = sym (long s bs (leb-false (length bs) 128 e)) ∙ h in
-        absurd (let z : _≡_ {A = ℕ} 0 1 = cc in omega arith)
+        never (cc)

@@ -2,7 +2,7 @@
 use Prim.{tt}
 use Prim.Native.Nat.{ℕ, zero, suc, _+_, _*_, _-_, _^_, _≤_, _<_}
 use mathlib.Core.Bool.{Bool, true, false}
-use mathlib.Core.Path.{_≡_, refl, sym, _∙_, ap}
+use mathlib.Core.Path.{_≡_, refl, _∙_, ap}
 use mathlib.Core.List.{List, [], _∷_}
 use native.Mathlib.Omega.{arith}
 use lib.Dec.{eqb, leb}
@@ -14,10 +14,8 @@ use Rattle.json.specs.machinery.Pieces.{pieceOf, contentOf}
 use Rattle.json.specs.declared.pieces.Piece.the-variants as B
 use Rattle.json.proofs.Contents.{content-closed, content-next}
 use Rattle.records.specs.Networks as N
-use Rattle.records.specs.Networks.{withDigit, afterDigit, lengthOf, dotted, slashed, numbersOf, networkOf}
-use Rattle.policy.specs.machinery.NetworkTexts.{digitOf, longerOf, digitStep, dotStep, slashStep, digitOr, numberStep, lengthStep, stepOf, endOf, readOf, HasRoom, numberOf, readBy, readAfter}
-use Rattle.policy.specs.declared.networks.NetworkText.{NetworkText}
-use Rattle.policy.specs.declared.networks.NetworkText.the-variants as T
+use Rattle.records.specs.Networks.{withDigit, afterDigit, lengthOf, dotted, slashed, numbersOf}
+use Rattle.policy.specs.machinery.NetworkTexts.{longerOf, digitStep, dotStep, slashStep, digitOr, partStep, partEnd, readOf, RoomLeft, asNumber, readBy, readAfter}
 use Rattle.policy.specs.declared.networks.Digit.the-variants as D
 use Rattle.policy.specs.declared.networks.Number.{Number}
 use Rattle.policy.specs.declared.networks.Number.the-variants as M
@@ -37,7 +35,7 @@ not-zero : (n : ℕ) → eqb (suc n) 0 ≡ false
 not-zero n = ne-eqb (suc n) 0 (λ e. omega arith)
 
 digit : (p : Part) (bs : List ℕ) (most d : ℕ) (n : Number)
-    → afterDigit (goes p bs) (withDigit most d (numberOf n)) ≡ readAfter bs (digitStep p (longerOf most d n))
+    → afterDigit (goes p bs) (withDigit most d (asNumber n)) ≡ readAfter bs (digitStep p (longerOf most d n))
 digit (P.Dotted k a) bs most d M.Blank = by (leb d most)
   where
     by : (x : Bool) → afterDigit (numbersOf bs k a) (pick x (N.Longer.goes d) N.Longer.fails) ≡ readAfter bs (digitStep (P.Dotted k a) (pick x (L.Goes d) L.Fails))
@@ -60,23 +58,23 @@ digit (P.Length a) bs most d (M.Value (suc n)) = rw (not-zero n) (by (leb (suc n
     by true = refl
     by false = refl
 
-dot : (k a : ℕ) (bs : List ℕ) (n : Number) → dotted (numbersOf bs) k a (numberOf n) ≡ readAfter bs (dotStep k a n)
+dot : (k a : ℕ) (bs : List ℕ) (n : Number) → dotted (numbersOf bs) k a (asNumber n) ≡ readAfter bs (dotStep k a n)
 dot zero a bs M.Blank = refl
 dot zero a bs (M.Value n) = refl
 dot (suc k) a bs M.Blank = refl
 dot (suc k) a bs (M.Value n) = let e : suc k - 1 ≡ k = omega arith in rw (not-zero k, e)
 
-slash : (k a : ℕ) (bs : List ℕ) (n : Number) → slashed (λ m. lengthOf m bs N.Number.blank) k a (numberOf n) ≡ readAfter bs (slashStep k a n)
+slash : (k a : ℕ) (bs : List ℕ) (n : Number) → slashed (λ m. lengthOf m bs N.Number.blank) k a (asNumber n) ≡ readAfter bs (slashStep k a n)
 slash zero a bs M.Blank = refl
 slash zero a bs (M.Value n) = refl
 slash (suc k) a bs M.Blank = refl
 slash (suc k) a bs (M.Value n) = rw (not-zero k)
 
-pub stepped : (p : Part) (n : Number) (b : ℕ) (bs : List ℕ) → readBy p n (b ∷ bs) ≡ readAfter bs (stepOf p n b)
+pub stepped : (p : Part) (n : Number) (b : ℕ) (bs : List ℕ) → readBy p n (b ∷ bs) ≡ readAfter bs (partStep p n b)
 stepped (P.Dotted k a) n b bs = by (isDigit b) (eqb b 0x2E) (eqb b 0x2F)
   where
     by : (x y z : Bool)
-        → pick x (afterDigit (numbersOf bs k a) (withDigit 255 (b - 0x30) (numberOf n))) (pick y (dotted (numbersOf bs) k a (numberOf n)) (pick z (slashed (λ m. lengthOf m bs N.Number.blank) k a (numberOf n)) N.Read.none))
+        → pick x (afterDigit (numbersOf bs k a) (withDigit 255 (b - 0x30) (asNumber n))) (pick y (dotted (numbersOf bs) k a (asNumber n)) (pick z (slashed (λ m. lengthOf m bs N.Number.blank) k a (asNumber n)) N.Read.none))
         ≡ readAfter bs (digitOr (P.Dotted k a) 255 n (pick y (dotStep k a n) (pick z (slashStep k a n) F.Fails)) (pick x (D.Is (b - 0x30)) D.None))
     by true y z = digit (P.Dotted k a) bs 255 (b - 0x30) n
     by false true z = dot k a bs n
@@ -84,12 +82,12 @@ stepped (P.Dotted k a) n b bs = by (isDigit b) (eqb b 0x2E) (eqb b 0x2F)
     by false false false = refl
 stepped (P.Length a) n b bs = by (isDigit b)
   where
-    by : (x : Bool) → pick x (afterDigit (lengthOf a bs) (withDigit 32 (b - 0x30) (numberOf n))) N.Read.none
+    by : (x : Bool) → pick x (afterDigit (lengthOf a bs) (withDigit 32 (b - 0x30) (asNumber n))) N.Read.none
         ≡ readAfter bs (digitOr (P.Length a) 32 n F.Fails (pick x (D.Is (b - 0x30)) D.None))
     by true = digit (P.Length a) bs 32 (b - 0x30) n
     by false = refl
 
-pub ends : (p : Part) (n : Number) → readBy p n [] ≡ readOf (endOf p n)
+pub ends : (p : Part) (n : Number) → readBy p n [] ≡ readOf (partEnd p n)
 ends (P.Dotted zero a) M.Blank = refl
 ends (P.Dotted zero a) (M.Value n) = refl
 ends (P.Dotted (suc k) a) M.Blank = refl
@@ -114,7 +112,7 @@ pub record Sound (p : Part) (n : Number) : Type 0 where
   pub room : Room p
   pub small : Small n
 
-pub has-room : (p : Part) → Room p → HasRoom p
+pub has-room : (p : Part) → Room p → RoomLeft p
 has-room (P.Dotted zero a) h = h
 has-room (P.Dotted (suc zero) a) h = omega arith
 has-room (P.Dotted (suc (suc zero)) a) h = omega arith
@@ -156,7 +154,7 @@ slash-sound k a M.Blank = tt
 slash-sound zero a (M.Value n) = record { room = tt; small = tt }
 slash-sound (suc k) a (M.Value n) = rw (not-zero k) tt
 
-pub step-sound : (p : Part) (n : Number) (b : ℕ) → Sound p n → SoundFurther (stepOf p n b)
+pub step-sound : (p : Part) (n : Number) (b : ℕ) → Sound p n → SoundFurther (partStep p n b)
 step-sound (P.Dotted k a) n b s = by (isDigit b) (eqb b 0x2E) (eqb b 0x2F)
   where
     by : (x y z : Bool)
@@ -172,15 +170,15 @@ step-sound (P.Length a) n b s = by (isDigit b)
     by false = tt
 
 -- the loop: one byte more, a byte that fails, the end
-pub goes-on : (s : List ℕ) (p q : Part) (n m : Number) (b wide : ℕ) → pieceOf s ≡ B.Byte b wide → stepOf p n b ≡ F.Goes q m
+pub goes-on : (s : List ℕ) (p q : Part) (n m : Number) (b wide : ℕ) → pieceOf s ≡ B.Byte b wide → partStep p n b ≡ F.Goes q m
     → readBy p n (contentOf s) ≡ readBy q m (contentOf (drop wide s))
 goes-on s p q n m b wide e f = ap (readBy p n) (content-next s b wide e) ∙ stepped p n b (contentOf (drop wide s)) ∙ ap (readAfter (contentOf (drop wide s))) f
 
-pub fails : (s : List ℕ) (p : Part) (n : Number) (b wide : ℕ) → pieceOf s ≡ B.Byte b wide → stepOf p n b ≡ F.Fails
+pub fails : (s : List ℕ) (p : Part) (n : Number) (b wide : ℕ) → pieceOf s ≡ B.Byte b wide → partStep p n b ≡ F.Fails
     → readBy p n (contentOf s) ≡ N.Read.none
 fails s p n b wide e f = ap (readBy p n) (content-next s b wide e) ∙ stepped p n b (contentOf (drop wide s)) ∙ ap (readAfter (contentOf (drop wide s))) f
 
-pub closes : (s : List ℕ) (p : Part) (n : Number) → pieceOf s ≡ B.Closed → readBy p n (contentOf s) ≡ readOf (endOf p n)
+pub closes : (s : List ℕ) (p : Part) (n : Number) → pieceOf s ≡ B.Closed → readBy p n (contentOf s) ≡ readOf (partEnd p n)
 closes s p n e = ap (readBy p n) (content-closed s e) ∙ ends p n
 
 pub shorter : (s : List ℕ) (b wide : ℕ) → pieceOf s ≡ B.Byte b wide → length (contentOf (drop wide s)) < length (contentOf s)

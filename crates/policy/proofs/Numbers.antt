@@ -2,7 +2,7 @@
 use Prim.{tt}
 use Prim.Native.Nat.{ℕ, _≤_}
 use mathlib.Core.Bool.{Bool, true, false, _||_}
-use mathlib.Core.Path.{_≡_, refl, sym, _∙_, ap}
+use mathlib.Core.Path.{_≡_, sym}
 use mathlib.Core.List.{List, [], _∷_, _++_}
 use native.Mathlib.Omega.{arith}
 use lib.Dec.{eqb, leb, ltb}
@@ -18,12 +18,13 @@ use Rattle.stored.specs.declared.machine.State.{State}
 use Rattle.stored.specs.declared.machine.Turn.{Turn}
 use Rattle.stored.specs.declared.machine.Turn.the-variants as T
 use Rattle.stored.proofs.Numbers.{Numbered, refused-item}
-use Rattle.members.specs.Members.{Verdict, topKind, rowKind, awsKind, operatorKind, keyKind, rowSlot, itself, versionText}
-use Rattle.members.specs.Members.Verdict.{fine, refused}
+use Rattle.stored.proofs.Choosing.{never}
+use Rattle.members.specs.Members.{topKind, rowKind, awsKind, operatorKind, keyKind, rowSlot, itself, versionText}
+use Rattle.members.specs.Members.Verdict.{refused}
 use Rattle.members.specs.Faults.{MemberFault, Lowest, badName, badValue, among, allAmong, memberFaults, textFaults, thisTextFaults, eachTextFaults, stringFaults, operatorFaults, conditionFaults, principalFaults, rowValueFaults, rowFaults, eachRowFaults, rowsFaults, topValueFaults, faults}
 use Rattle.records.specs.Wishes.{Wish}
 use Rattle.records.specs.Wishes.Wish.{made, strange, empty, unread}
-use Rattle.records.specs.Records.{unreadFault, wishTurn, wishPlace, afterWish, running}
+use Rattle.records.specs.Records.{wishTurn, wishPlace, afterWish, running}
 
 -- Members
 
@@ -156,7 +157,7 @@ turn-low s (unread n bs) = by (eqb (length bs) 0 || (ltb 128 (length bs) || leb 
     by false = (omega arith, omega arith)
 
 pub record-number : (ws : List Wish) (s : State) (k n : ℕ) → running ws s ≡ refused k n → (3 ≤ k) × (k ≤ 8)
-record-number [] s k n h = absurd (let z : _≡_ {A = ℕ} 0 1 = cc in omega arith)
+record-number [] s k n h = never (cc)
 record-number (x ∷ ws) s k n h = by (wishTurn s x) (turn-low s x) h (λ u e. record-number ws u k n e)
   where
     by : (t : Turn) → Low t → afterWish (running ws) (wishPlace x) t ≡ refused k n → ((u : State) → running ws u ≡ refused k n → (3 ≤ k) × (k ≤ 8))

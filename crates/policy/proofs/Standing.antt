@@ -1,14 +1,13 @@
 -- The item that stands for a wish does in the machine and in the writer what the wish does.
-use Prim.{tt}
-use Prim.Native.Nat.{ℕ, _+_, _-_, _≤_, _<_}
-use mathlib.Core.Bool.{Bool, true, false, _||_}
+use Prim.Native.Nat.{ℕ, _+_, _-_, _≤_}
+use mathlib.Core.Bool.{Bool, true, false}
 use mathlib.Core.Path.{_≡_, refl, sym, _∙_, ap}
-use mathlib.Core.List.{List, [], _∷_}
+use mathlib.Core.List.{List, []}
 use native.Mathlib.Omega.{arith}
 use lib.Dec.{eqb, leb, ltb}
 use lib.ListN.{length, take, drop}
 use lib.Seq.{length-take-le, take-all, drop-drop}
-use borrow.Author.Tests.{lt-ltb, le-ltb, leb-true, leb-false, eq-eqb, ne-eqb, ltb-true, ltb-false}
+use borrow.Author.Tests.{lt-ltb, leb-true, leb-false, ne-eqb, ltb-false}
 use Rattle.json.specs.Choice.{pick}
 use Rattle.stored.specs.Machine.{admitItem, dueOf, startTurn, countedState}
 use Rattle.stored.specs.Writing.{recordOf, placing, writing, bufferAfter, wouldTake, wouldWrite}
@@ -23,17 +22,16 @@ use Rattle.stored.specs.declared.writer.Writer.{Writer}
 use Rattle.stored.specs.declared.writer.WriteAnswer.{WriteAnswer}
 use Rattle.stored.specs.declared.writer.WriteAnswer.the-variants as W
 use Rattle.json.specs.machinery.Pieces.{contentOf}
+use Rattle.stored.proofs.Choosing.{never}
 use Rattle.records.specs.Networks as N
 use Rattle.records.specs.Networks.{networkOf}
 use Rattle.records.specs.machinery.Cursors.{wishOf}
 use Rattle.records.specs.declared.wishes.Wish.the-variants as C
 use Rattle.policy.specs.declared.items.Asked.the-variants as A
 use Rattle.records.specs.Wishes.{Wish, networkWish}
-use Rattle.records.specs.Wishes.Wish.{made, strange, empty, unread}
+use Rattle.records.specs.Wishes.Wish.{made}
 use Rattle.records.specs.Records.{unreadFault, wishTurn}
 use Rattle.policy.specs.machinery.Asking.{atMost255, unreadNumber, wishRecord, Stands, Asks, wishWould, wishWriting}
-use Rattle.policy.specs.machinery.NetworkTexts.{readOf}
-use Rattle.policy.specs.declared.networks.NetworkText.the-variants as X
 use Rattle.policy.proofs.LongValues.{first-turn, taken-whole}
 
 pub stands-would : (s : State) (x : Wish) (i : Item) (bs : List ℕ) → Stands s x i bs → wouldWrite s i bs ≡ wishWould s x
@@ -99,8 +97,8 @@ start-small s next c h = by (ltb 32 c) refl (eqb (dueOf s K.Start) 0) h
   where
     by : (x : Bool) → ltb 32 c ≡ x → (y : Bool)
         → pick y (pick x (T.Refused 6) (T.Next (countedState c))) (T.Refused (dueOf s K.Start)) ≡ T.Next next → atMost255 c ≡ c
-    by true e true g = absurd (let z : _≡_ {A = ℕ} 0 1 = cc in omega arith)
-    by true e false g = absurd (let z : _≡_ {A = ℕ} 0 1 = cc in omega arith)
+    by true e true g = never (cc)
+    by true e false g = never (cc)
     by false e y g = rw (lt-ltb c 255 (omega (arith, ltb-false 32 c e)))
 
 pub start-stands : (s : State) (n c : ℕ) → Stands s (made n (start c)) (I.Start (atMost255 c)) []
@@ -130,16 +128,17 @@ pub value-asks : (s : State) (t bytes : List ℕ) (place from size : ℕ) → dr
     → take size bytes ≡ take 129 (contentOf (drop from t)) → Asks s (wishOf t C.Value place) bytes (A.Item I.Value size)
 value-asks s t bytes place from size e l h same =
     let there : take size bytes ≡ take 129 (contentOf (drop (place + 1) t)) =
-        same ∙ ap (λ (r : List ℕ). take 129 (contentOf r)) (e ∙ drop-drop 1 place t) in
+    same ∙ ap (λ (r : List ℕ). take 129 (contentOf r)) (e ∙ drop-drop 1 place t) in
     (omega arith, rw there (value-stands s (length t - place) (contentOf (drop (place + 1) t))))
 
 -- and as a network
 pub network-asks : (s : State) (t bytes : List ℕ) (place from a k : ℕ) → drop from t ≡ drop 1 (drop place t)
     → N.Read.network a k ≡ networkOf (contentOf (drop from t)) → Asks s (wishOf t C.Network place) bytes (A.Item (I.Network a k) 0)
 network-asks s t bytes place from a k e f =
-    let content = contentOf (drop (place + 1) t) in
-    (omega arith,
-    network-stands s (length t - place) a k content (networkOf content) (f ∙ ap (λ (r : List ℕ). networkOf (contentOf r)) (e ∙ drop-drop 1 place t)))
+    let content = contentOf (drop (place + 1) t) in (
+      omega arith,
+      network-stands s (length t - place) a k content (networkOf content) (f ∙ ap (λ (r : List ℕ). networkOf (contentOf r)) (e ∙ drop-drop 1 place t)),
+    )
 
 pub network-refused : (s : State) (t bytes : List ℕ) (place from size : ℕ) → drop from t ≡ drop 1 (drop place t)
     → N.Read.none ≡ networkOf (contentOf (drop from t)) → length bytes ≡ 129 → size ≤ 129 → take size bytes ≡ take 129 (contentOf (drop from t))

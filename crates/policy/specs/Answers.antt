@@ -20,13 +20,13 @@ abbrev pub documentOf : {t : List ℕ} → Text t → Tree one
 documentOf x = treeOf (x .value-first)
 
 -- the table of the statements that it says
-abbrev pub tableOf : {t : List ℕ} → Text t → List ℕ
-tableOf x = encode (entriesFor (statementsOf (documentOf x)))
+abbrev pub tableFor : {t : List ℕ} → Text t → List ℕ
+tableFor x = encode (entriesFor (statementsOf (documentOf x)))
 
 -- a document with no 21 or 22, and of whose records none is refused
 pub record Taken {t : List ℕ} (x : Text t) : Type 0 where
-  pub members : faults (documentOf x) ≡ []
-  pub records : recordsOf (documentOf x) ≡ fine
+  pub sound-members : faults (documentOf x) ≡ []
+  pub sound-records : recordsOf (documentOf x) ≡ fine
 
 -- Places are counted from the text's first byte; those of records are said as the bytes left there.
 pub data Answered (t buffer : List ℕ) : JsonAnswer → List ℕ → Type 0 where
@@ -38,9 +38,9 @@ pub data Answered (t buffer : List ℕ) : JsonAnswer → List ℕ → Type 0 whe
   wrong-record : {k n : ℕ} (x : Text t) → faults (documentOf x) ≡ [] → recordsOf (documentOf x) ≡ refused k n
       → Answered t buffer (A.Refused k (length t - n)) buffer
   -- the table would be over 16,384 bytes
-  too-long : (x : Text t) → Taken x → 16384 < length (tableOf x) → Answered t buffer (A.Refused 1 16384) buffer
+  too-long : (x : Text t) → Taken x → 16384 < length (tableFor x) → Answered t buffer (A.Refused 1 16384) buffer
   -- the buffer is shorter than the table
-  no-room : (x : Text t) → Taken x → length (tableOf x) ≤ 16384 → length buffer < length (tableOf x) → Answered t buffer (A.Refused 14 0) buffer
+  no-room : (x : Text t) → Taken x → length (tableFor x) ≤ 16384 → length buffer < length (tableFor x) → Answered t buffer (A.Refused 14 0) buffer
   -- the buffer holds the table, and behind it what it held
-  written : (x : Text t) → Taken x → length (tableOf x) ≤ 16384 → length (tableOf x) ≤ length buffer
-      → Answered t buffer (A.Written (length (tableOf x))) (tableOf x ++ drop (length (tableOf x)) buffer)
+  written : (x : Text t) → Taken x → length (tableFor x) ≤ 16384 → length (tableFor x) ≤ length buffer
+      → Answered t buffer (A.Written (length (tableFor x))) (tableFor x ++ drop (length (tableFor x)) buffer)

@@ -2,4 +2,4 @@
 pub mod NetworkTexts
 pub mod Asking
 pub mod Runs
-pub mod Outcomes
+pub mod Endings

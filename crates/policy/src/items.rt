@@ -109,7 +109,13 @@ pub fn try_wish(text: &[u8], state: State, wish: Wish, place: usize) -> Would
 }
 
 // Writes the record that a wish asks for.
-pub fn write_wish(text: &[u8], writer: Writer, wish: Wish, place: usize, buffer: &mut [u8]) -> WriteAnswer
+pub fn write_wish(
+    text: &[u8],
+    writer: Writer,
+    wish: Wish,
+    place: usize,
+    buffer: &mut [u8],
+) -> WriteAnswer
     ensures answer { λ r. ⌜ r ≡ wishWriting writer (wishOf (now (text .entry)) wish place) (length (now (buffer .entry))) ⌝ }
     ensures laid { λ r. ⌜ now (buffer .exit) ≡ bufferAfter (writer .at) (wishRecord (wishOf (now (text .entry)) wish place)) (now (buffer .entry)) r ⌝ }
 {

@@ -7,7 +7,7 @@ ghost use Prim.Native.Nat.{_<_};
 ghost use lib.ListN.{drop};
 ghost use Rattle.json.specs.machinery.Pieces.{contentOf};
 ghost use Rattle.records.specs.Networks.{networkOf};
-ghost use Rattle.policy.specs.machinery.NetworkTexts.{digitOf, longerOf, digitStep, dotStep, slashStep, numberStep, lengthStep, stepOf, endOf, readOf, HasRoom};
+ghost use Rattle.policy.specs.machinery.NetworkTexts.{asDigit, longerOf, digitStep, dotStep, slashStep, dottedStep, lengthStep, partStep, partEnd, readOf, RoomLeft};
 
 pub enum NetworkText {
     // The address, and the length.
@@ -45,7 +45,7 @@ pub enum Further {
 
 // The digit that a byte is.
 fn digit_of(byte: u8) -> Digit
-    ensures { λ r. ⌜ r ≡ digitOf byte ⌝ }
+    ensures { λ r. ⌜ r ≡ asDigit byte ⌝ }
 {
     if 0x30 <= byte {
         if byte <= 0x39 {
@@ -100,7 +100,10 @@ fn at_dot(dots: u8, address: u32, number: Number) -> Further
             if dots == 0 {
                 return Further::Fails;
             }
-            Further::Goes(Part::Dotted(dots - 1, address * 256 + value as u32), Number::Blank)
+            Further::Goes(
+                Part::Dotted(dots - 1, address * 256 + value as u32),
+                Number::Blank,
+            )
         }
     }
 }
@@ -124,7 +127,7 @@ fn at_slash(dots: u8, address: u32, number: Number) -> Further
 // One byte of the four numbers.
 fn number_step(dots: u8, address: u32, number: Number, byte: u8) -> Further
     requires { ⌜ address < 0x1000000 ⌝ }
-    ensures { λ r. ⌜ r ≡ numberStep dots address number byte ⌝ }
+    ensures { λ r. ⌜ r ≡ dottedStep dots address number byte ⌝ }
 {
     match digit_of(byte) {
         Digit::Is(digit) => at_digit(Part::Dotted(dots, address), one_more(255, digit, number)),
@@ -151,8 +154,8 @@ fn length_step(address: u32, number: Number, byte: u8) -> Further
 }
 
 fn part_step(part: Part, number: Number, byte: u8) -> Further
-    requires { ⌜ HasRoom part ⌝ }
-    ensures { λ r. ⌜ r ≡ stepOf part number byte ⌝ }
+    requires { ⌜ RoomLeft part ⌝ }
+    ensures { λ r. ⌜ r ≡ partStep part number byte ⌝ }
 {
     match part {
         Part::Dotted(dots, address) => number_step(dots, address, number, byte),
@@ -162,7 +165,7 @@ fn part_step(part: Part, number: Number, byte: u8) -> Further
 
 fn number_end(dots: u8, address: u32, number: Number) -> NetworkText
     requires { ⌜ address < 0x1000000 ⌝ }
-    ensures { λ r. ⌜ r ≡ endOf (Part.Dotted dots address) number ⌝ }
+    ensures { λ r. ⌜ r ≡ partEnd (Part.Dotted dots address) number ⌝ }
 {
     match number {
         Number::Blank => NetworkText::None,
@@ -176,7 +179,7 @@ fn number_end(dots: u8, address: u32, number: Number) -> NetworkText
 }
 
 fn length_end(address: u32, number: Number) -> NetworkText
-    ensures { λ r. ⌜ r ≡ endOf (Part.Length address) number ⌝ }
+    ensures { λ r. ⌜ r ≡ partEnd (Part.Length address) number ⌝ }
 {
     match number {
         Number::Blank => NetworkText::None,
@@ -186,8 +189,8 @@ fn length_end(address: u32, number: Number) -> NetworkText
 
 // What the bytes say where they end.
 fn part_end(part: Part, number: Number) -> NetworkText
-    requires { ⌜ HasRoom part ⌝ }
-    ensures { λ r. ⌜ r ≡ endOf part number ⌝ }
+    requires { ⌜ RoomLeft part ⌝ }
+    ensures { λ r. ⌜ r ≡ partEnd part number ⌝ }
 {
     match part {
         Part::Dotted(dots, address) => number_end(dots, address, number),

@@ -9,7 +9,7 @@ use members::checking::members_fault;
 use stored::limits::MOST_BYTES;
 ghost use mathlib.Core.Path.{_≡_};
 ghost use Rattle.policy.specs.Answers.{Answered};
-ghost use Rattle.policy.specs.machinery.Outcomes.{Ends, byFault, byMembers, byRecords};
+ghost use Rattle.policy.specs.machinery.Endings.{Ends, byFault, byMembers, byRecords};
 ghost use Rattle.policy.specs.declared.trying.Dried.the-variants as D;
 ghost use Rattle.members.specs.declared.checking.Checked.the-variants as C;
 ghost use Rattle.json.specs.declared.reader.Fault.the-variants as F;

@@ -1,8 +1,8 @@
 -- One wish and the item that stands for it: through the state machine, and through the writer.
 use Prim.Native.Nat.{ℕ, _≤_}
-use mathlib.Core.Bool.{Bool, true, false, _||_}
+use mathlib.Core.Bool.{_||_}
 use mathlib.Core.Path.{_≡_}
-use mathlib.Core.List.{List, [], _∷_}
+use mathlib.Core.List.{List, []}
 use lib.Dec.{eqb, leb, ltb}
 use lib.ListN.{length, take}
 use Rattle.json.specs.Choice.{pick}
@@ -11,7 +11,6 @@ use Rattle.stored.specs.Writing.{recordOf, placing, wouldTake}
 use Rattle.stored.specs.Entries.{itemOf, bytesOf}
 use Rattle.stored.specs.declared.items.Item.{Item}
 use Rattle.stored.specs.declared.machine.State.{State}
-use Rattle.stored.specs.declared.machine.Turn.{Turn}
 use Rattle.stored.specs.declared.machine.Turn.the-variants as T
 use Rattle.stored.specs.declared.writer.Would.{Would}
 use Rattle.stored.specs.declared.writer.Writer.{Writer}

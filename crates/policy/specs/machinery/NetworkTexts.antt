@@ -1,7 +1,6 @@
 -- The reading of a network's text, one byte at a time.
-use Prim.Native.Nat.{ℕ, zero, suc, _+_, _*_, _-_, _<_}
-use mathlib.Core.Bool.{Bool, true, false}
-use mathlib.Core.List.{List, [], _∷_}
+use Prim.Native.Nat.{ℕ, _+_, _*_, _-_, _<_}
+use mathlib.Core.List.{List}
 use lib.Dec.{eqb, leb}
 use Rattle.json.specs.Choice.{pick}
 use Rattle.json.specs.Bytes.{isDigit}
@@ -20,8 +19,8 @@ use Rattle.policy.specs.declared.networks.Part.the-variants as P
 use Rattle.policy.specs.declared.networks.Further.{Further}
 use Rattle.policy.specs.declared.networks.Further.the-variants as F
 
-abbrev pub digitOf : ℕ → Digit
-digitOf b = pick (isDigit b) (D.Is (b - 0x30)) D.None
+abbrev pub asDigit : ℕ → Digit
+asDigit b = pick (isDigit b) (D.Is (b - 0x30)) D.None
 
 abbrev pub longerOf : ℕ → ℕ → Number → Longer
 longerOf most d M.Blank = pick (leb d most) (L.Goes d) L.Fails
@@ -44,40 +43,40 @@ abbrev pub digitOr : Part → ℕ → Number → Further → Digit → Further
 digitOr p most n else (D.Is d) = digitStep p (longerOf most d n)
 digitOr p most n else D.None = else
 
-abbrev pub numberStep : ℕ → ℕ → Number → ℕ → Further
-numberStep k a n b =
-    digitOr (P.Dotted k a) 255 n (pick (eqb b 0x2E) (dotStep k a n) (pick (eqb b 0x2F) (slashStep k a n) F.Fails)) (digitOf b)
+abbrev pub dottedStep : ℕ → ℕ → Number → ℕ → Further
+dottedStep k a n b =
+    digitOr (P.Dotted k a) 255 n (pick (eqb b 0x2E) (dotStep k a n) (pick (eqb b 0x2F) (slashStep k a n) F.Fails)) (asDigit b)
 
 abbrev pub lengthStep : ℕ → Number → ℕ → Further
-lengthStep a n b = digitOr (P.Length a) 32 n F.Fails (digitOf b)
+lengthStep a n b = digitOr (P.Length a) 32 n F.Fails (asDigit b)
 
-abbrev pub stepOf : Part → Number → ℕ → Further
-stepOf (P.Dotted k a) n b = numberStep k a n b
-stepOf (P.Length a) n b = lengthStep a n b
+abbrev pub partStep : Part → Number → ℕ → Further
+partStep (P.Dotted k a) n b = dottedStep k a n b
+partStep (P.Length a) n b = lengthStep a n b
 
-abbrev pub endOf : Part → Number → NetworkText
-endOf (P.Dotted k a) M.Blank = T.None
-endOf (P.Dotted k a) (M.Value n) = pick (eqb k 0) (T.Network (a * 256 + n) 32) T.None
-endOf (P.Length a) M.Blank = T.None
-endOf (P.Length a) (M.Value n) = T.Network a n
+abbrev pub partEnd : Part → Number → NetworkText
+partEnd (P.Dotted k a) M.Blank = T.None
+partEnd (P.Dotted k a) (M.Value n) = pick (eqb k 0) (T.Network (a * 256 + n) 32) T.None
+partEnd (P.Length a) M.Blank = T.None
+partEnd (P.Length a) (M.Value n) = T.Network a n
 
 abbrev pub readOf : NetworkText → N.Read
 readOf (T.Network a n) = N.Read.network a n
 readOf T.None = N.Read.none
 
 -- there is room for one byte more in the address
-abbrev pub HasRoom : Part → Type 0
-HasRoom (P.Dotted k a) = a < 0x1000000
-HasRoom (P.Length a) = Unit {0}
+abbrev pub RoomLeft : Part → Type 0
+RoomLeft (P.Dotted k a) = a < 0x1000000
+RoomLeft (P.Length a) = Unit {0}
 
-abbrev pub numberOf : Number → N.Number
-numberOf M.Blank = N.Number.blank
-numberOf (M.Value n) = N.Number.value n
+abbrev pub asNumber : Number → N.Number
+asNumber M.Blank = N.Number.blank
+asNumber (M.Value n) = N.Number.value n
 
 -- what the bytes left say, and what they say after a step
 abbrev pub readBy : Part → Number → List ℕ → N.Read
-readBy (P.Dotted k a) n bs = numbersOf bs k a (numberOf n)
-readBy (P.Length a) n bs = lengthOf a bs (numberOf n)
+readBy (P.Dotted k a) n bs = numbersOf bs k a (asNumber n)
+readBy (P.Length a) n bs = lengthOf a bs (asNumber n)
 
 abbrev pub readAfter : List ℕ → Further → N.Read
 readAfter bs (F.Goes p n) = readBy p n bs

@@ -1,10 +1,8 @@
-use mathlib.Core.Path.{sym, _∙_}
+-- A number below 255 is itself.
 use borrow.Author.Tests.{le-ltb, lt-ltb}
 use borrow.Author.Needs.{needs}
 use Rattle.policy.proofs.items.in_byte.Statement.{statement}
 use Rattle.policy.proofs.items.in_byte.Tie as tie
-use Rattle.policy.proofs.items.in_byte.Reads as reads
-use Rattle.policy.proofs.items.in_byte.Lts as lts
 
 cast-result : tie.Need-cast-result
 cast-result c = search needs

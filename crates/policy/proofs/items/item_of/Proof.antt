@@ -1,16 +1,10 @@
 -- Each wish but a string is its item; a string is asked for by its bytes.
-use Prim.Native.Nat.{ℕ}
 use mathlib.Core.Path.{refl}
 use native.Mathlib.Omega.{arith}
 use Rattle.policy.proofs.Standing.{start-stands}
 use borrow.Author.Needs.{needs}
 use Rattle.policy.proofs.items.item_of.Statement.{statement}
 use Rattle.policy.proofs.items.item_of.Tie as tie
-use Rattle.policy.proofs.items.item_of.Reads as reads
-use Rattle.policy.proofs.items.item_of.Lts as lts
-use Rattle.policy.proofs.items.in_byte.Reads as in-byte-reads
-use Rattle.policy.proofs.items.network_item.Reads as network-item-reads
-use Rattle.policy.proofs.items.value_item.Reads as value-item-reads
 
 enum-known-wish : tie.Need-enum-known-wish
 enum-known-wish c = search needs

@@ -1,9 +1,8 @@
 -- A string that is no network is refused by its length, of which its first 129 bytes say enough.
-use mathlib.Core.Path.{_≡_, sym, _∙_, ap}
+use mathlib.Core.Path.{sym, _∙_, ap}
 use Prim.Native.Nat.{ℕ}
-use mathlib.Core.List.{List}
 use native.Mathlib.Omega.{arith}
-use lib.ListN.{length, take, drop}
+use lib.ListN.{take, drop}
 use Rattle.json.specs.machinery.Pieces.{contentOf}
 use Rattle.stored.specs.declared.machine.Turn.the-variants as T
 use Rattle.policy.specs.machinery.NetworkTexts.{readOf}
@@ -11,12 +10,6 @@ use Rattle.policy.proofs.Standing.{network-asks, network-refused}
 use borrow.Author.Needs.{needs}
 use Rattle.policy.proofs.items.network_item.Statement.{statement}
 use Rattle.policy.proofs.items.network_item.Tie as tie
-use Rattle.policy.proofs.items.network_item.Reads as reads
-use Rattle.policy.proofs.items.network_item.Lts as lts
-use Rattle.json.proofs.pieces.advance.Reads as advance-reads
-use Rattle.policy.proofs.items.unread.Reads as unread-reads
-use Rattle.policy.proofs.networks.read_network.Reads as read-network-reads
-use Rattle.policy.proofs.values.copy_string.Reads as copy-string-reads
 
 advance-requires : tie.Need-advance-requires
 advance-requires c κs = search needs

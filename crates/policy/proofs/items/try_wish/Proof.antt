@@ -1,18 +1,13 @@
 -- The item that stands for the wish does in the machine what the wish does.
-use Prim.Native.Nat.{ℕ}
-use mathlib.Core.Path.{_≡_, sym, _∙_}
+use mathlib.Core.Path.{sym, _∙_}
 use native.Mathlib.Omega.{arith}
-use lib.ListN.{length, take}
+use lib.ListN.{take}
 use lib.Seq.{length-take-le}
 use Rattle.records.specs.machinery.Cursors.{wishOf}
 use Rattle.policy.proofs.Standing.{stands-would, refused-would}
 use borrow.Author.Needs.{needs}
 use Rattle.policy.proofs.items.try_wish.Statement.{statement}
 use Rattle.policy.proofs.items.try_wish.Tie as tie
-use Rattle.policy.proofs.items.try_wish.Reads as reads
-use Rattle.policy.proofs.items.try_wish.Lts as lts
-use Rattle.policy.proofs.items.item_of.Reads as item-of-reads
-use Rattle.stored.proofs.writer.would_write.Reads as would-write-reads
 
 slice-aggregate-item-of : tie.Need-slice-aggregate-item-of
 slice-aggregate-item-of c = search needs

@@ -1,10 +1,8 @@
-use mathlib.Core.Path.{sym, _∙_}
+-- The tests in their order.
 use borrow.Author.Tests.{eq-eqb, le-leb, le-ltb, lt-leb, lt-ltb, ne-eqb}
 use borrow.Author.Needs.{needs}
 use Rattle.policy.proofs.items.unread.Statement.{statement}
 use Rattle.policy.proofs.items.unread.Tie as tie
-use Rattle.policy.proofs.items.unread.Reads as reads
-use Rattle.policy.proofs.items.unread.Lts as lts
 
 returns : tie.Need-returns
 returns c = simp (eq-eqb _ _ (c .if1 .taken))

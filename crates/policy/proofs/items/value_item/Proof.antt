@@ -1,18 +1,13 @@
 -- The first 129 bytes of a string stand for its value.
-use mathlib.Core.Path.{_≡_, sym, _∙_, ap}
+use mathlib.Core.Path.{_∙_, ap}
 use Prim.Native.Nat.{ℕ}
-use mathlib.Core.List.{List}
 use native.Mathlib.Omega.{arith}
-use lib.ListN.{length, take, drop}
+use lib.ListN.{take, drop}
 use Rattle.json.specs.machinery.Pieces.{contentOf}
 use Rattle.policy.proofs.Standing.{value-asks}
 use borrow.Author.Needs.{needs}
 use Rattle.policy.proofs.items.value_item.Statement.{statement}
 use Rattle.policy.proofs.items.value_item.Tie as tie
-use Rattle.policy.proofs.items.value_item.Reads as reads
-use Rattle.policy.proofs.items.value_item.Lts as lts
-use Rattle.json.proofs.pieces.advance.Reads as advance-reads
-use Rattle.policy.proofs.values.copy_string.Reads as copy-string-reads
 
 advance-requires : tie.Need-advance-requires
 advance-requires c κs = search needs

@@ -1,6 +1,5 @@
 -- The item that stands for the wish does in the writer what the wish does.
-use Prim.Native.Nat.{ℕ}
-use mathlib.Core.Path.{_≡_, refl, sym, _∙_}
+use mathlib.Core.Path.{refl, sym, _∙_}
 use native.Mathlib.Omega.{arith}
 use lib.ListN.{length, take}
 use lib.Seq.{length-take-le}
@@ -9,10 +8,6 @@ use Rattle.policy.proofs.Standing.{stands-writing, stands-laid, refused
 use borrow.Author.Needs.{needs}
 use Rattle.policy.proofs.items.write_wish.Statement.{statement}
 use Rattle.policy.proofs.items.write_wish.Tie as tie
-use Rattle.policy.proofs.items.write_wish.Reads as reads
-use Rattle.policy.proofs.items.write_wish.Lts as lts
-use Rattle.policy.proofs.items.item_of.Reads as item-of-reads
-use Rattle.stored.proofs.writer.write.Reads as write-reads
 
 slice-aggregate-item-of : tie.Need-slice-aggregate-item-of
 slice-aggregate-item-of c = search needs

@@ -1,9 +1,7 @@
-use mathlib.Core.Path.{sym, _∙_}
+-- A digit goes on in the same part, or fails.
 use borrow.Author.Needs.{needs}
 use Rattle.policy.proofs.networks.at_digit.Statement.{statement}
 use Rattle.policy.proofs.networks.at_digit.Tie as tie
-use Rattle.policy.proofs.networks.at_digit.Reads as reads
-use Rattle.policy.proofs.networks.at_digit.Lts as lts
 
 enum-known-longer : tie.Need-enum-known-longer
 enum-known-longer c = search needs

@@ -1,10 +1,8 @@
-use mathlib.Core.Path.{sym, _∙_}
+-- A dot ends a number, where one is begun and another is due.
 use borrow.Author.Tests.{eq-eqb, ne-eqb}
 use borrow.Author.Needs.{needs}
 use Rattle.policy.proofs.networks.at_dot.Statement.{statement}
 use Rattle.policy.proofs.networks.at_dot.Tie as tie
-use Rattle.policy.proofs.networks.at_dot.Reads as reads
-use Rattle.policy.proofs.networks.at_dot.Lts as lts
 
 enum-told : tie.Need-enum-told
 enum-told c = search needs

@@ -1,10 +1,8 @@
-use mathlib.Core.Path.{sym, _∙_}
+-- A slash ends the last number, where it is begun.
 use borrow.Author.Tests.{eq-eqb, ne-eqb}
 use borrow.Author.Needs.{needs}
 use Rattle.policy.proofs.networks.at_slash.Statement.{statement}
 use Rattle.policy.proofs.networks.at_slash.Tie as tie
-use Rattle.policy.proofs.networks.at_slash.Reads as reads
-use Rattle.policy.proofs.networks.at_slash.Lts as lts
 
 enum-told : tie.Need-enum-told
 enum-told c = search needs

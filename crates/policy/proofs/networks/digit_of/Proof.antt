@@ -1,10 +1,8 @@
-use mathlib.Core.Path.{sym, _∙_}
+-- The two bounds of a digit.
 use borrow.Author.Tests.{le-leb, lt-leb}
 use borrow.Author.Needs.{needs}
 use Rattle.policy.proofs.networks.digit_of.Statement.{statement}
 use Rattle.policy.proofs.networks.digit_of.Tie as tie
-use Rattle.policy.proofs.networks.digit_of.Reads as reads
-use Rattle.policy.proofs.networks.digit_of.Lts as lts
 
 returns : tie.Need-returns
 returns c = simp (le-leb _ _ (c .before .if1 .taken), le-leb _ _ (c .if2 .taken))

@@ -1,9 +1,7 @@
-use mathlib.Core.Path.{sym, _∙_}
+-- A length is said where one is begun.
 use borrow.Author.Needs.{needs}
 use Rattle.policy.proofs.networks.length_end.Statement.{statement}
 use Rattle.policy.proofs.networks.length_end.Tie as tie
-use Rattle.policy.proofs.networks.length_end.Reads as reads
-use Rattle.policy.proofs.networks.length_end.Lts as lts
 
 enum-told : tie.Need-enum-told
 enum-told c = search needs

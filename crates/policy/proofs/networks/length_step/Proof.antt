@@ -1,12 +1,8 @@
+-- Behind the slash only digits go on.
 use mathlib.Core.Path.{sym, _∙_}
 use borrow.Author.Needs.{needs}
 use Rattle.policy.proofs.networks.length_step.Statement.{statement}
 use Rattle.policy.proofs.networks.length_step.Tie as tie
-use Rattle.policy.proofs.networks.length_step.Reads as reads
-use Rattle.policy.proofs.networks.length_step.Lts as lts
-use Rattle.policy.proofs.networks.at_digit.Reads as at-digit-reads
-use Rattle.policy.proofs.networks.digit_of.Reads as digit-of-reads
-use Rattle.policy.proofs.networks.one_more.Reads as one-more-reads
 
 digit-of-requires : tie.Need-digit-of-requires
 digit-of-requires c κs = search needs

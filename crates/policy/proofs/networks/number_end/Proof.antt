@@ -1,10 +1,8 @@
-use mathlib.Core.Path.{sym, _∙_}
+-- An address alone is said where its last number is begun.
 use borrow.Author.Tests.{eq-eqb, ne-eqb}
 use borrow.Author.Needs.{needs}
 use Rattle.policy.proofs.networks.number_end.Statement.{statement}
 use Rattle.policy.proofs.networks.number_end.Tie as tie
-use Rattle.policy.proofs.networks.number_end.Reads as reads
-use Rattle.policy.proofs.networks.number_end.Lts as lts
 
 enum-told : tie.Need-enum-told
 enum-told c = search needs

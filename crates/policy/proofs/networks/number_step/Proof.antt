@@ -1,15 +1,9 @@
+-- A digit, a dot, a slash, or none.
 use mathlib.Core.Path.{sym, _∙_}
 use borrow.Author.Tests.{eq-eqb, ne-eqb}
 use borrow.Author.Needs.{needs}
 use Rattle.policy.proofs.networks.number_step.Statement.{statement}
 use Rattle.policy.proofs.networks.number_step.Tie as tie
-use Rattle.policy.proofs.networks.number_step.Reads as reads
-use Rattle.policy.proofs.networks.number_step.Lts as lts
-use Rattle.policy.proofs.networks.at_digit.Reads as at-digit-reads
-use Rattle.policy.proofs.networks.at_dot.Reads as at-dot-reads
-use Rattle.policy.proofs.networks.at_slash.Reads as at-slash-reads
-use Rattle.policy.proofs.networks.digit_of.Reads as digit-of-reads
-use Rattle.policy.proofs.networks.one_more.Reads as one-more-reads
 
 digit-of-requires : tie.Need-digit-of-requires
 digit-of-requires c κs = search needs

@@ -1,10 +1,8 @@
-use mathlib.Core.Path.{sym, _∙_}
+-- A first digit, or one more behind a number that is not 0, up to the greatest value.
 use borrow.Author.Tests.{eq-eqb, le-leb, lt-leb, ne-eqb}
 use borrow.Author.Needs.{needs}
 use Rattle.policy.proofs.networks.one_more.Statement.{statement}
 use Rattle.policy.proofs.networks.one_more.Tie as tie
-use Rattle.policy.proofs.networks.one_more.Reads as reads
-use Rattle.policy.proofs.networks.one_more.Lts as lts
 
 enum-told : tie.Need-enum-told
 enum-told c = search needs

@@ -1,11 +1,7 @@
-use mathlib.Core.Path.{sym, _∙_}
+-- By the part in which the bytes end.
 use borrow.Author.Needs.{needs}
 use Rattle.policy.proofs.networks.part_end.Statement.{statement}
 use Rattle.policy.proofs.networks.part_end.Tie as tie
-use Rattle.policy.proofs.networks.part_end.Reads as reads
-use Rattle.policy.proofs.networks.part_end.Lts as lts
-use Rattle.policy.proofs.networks.length_end.Reads as length-end-reads
-use Rattle.policy.proofs.networks.number_end.Reads as number-end-reads
 
 enum-known-part : tie.Need-enum-known-part
 enum-known-part c = search needs

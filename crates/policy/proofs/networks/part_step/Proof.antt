@@ -1,11 +1,7 @@
-use mathlib.Core.Path.{sym, _∙_}
+-- By the part in which the byte stands.
 use borrow.Author.Needs.{needs}
 use Rattle.policy.proofs.networks.part_step.Statement.{statement}
 use Rattle.policy.proofs.networks.part_step.Tie as tie
-use Rattle.policy.proofs.networks.part_step.Reads as reads
-use Rattle.policy.proofs.networks.part_step.Lts as lts
-use Rattle.policy.proofs.networks.length_step.Reads as length-step-reads
-use Rattle.policy.proofs.networks.number_step.Reads as number-step-reads
 
 enum-known-part : tie.Need-enum-known-part
 enum-known-part c = search needs

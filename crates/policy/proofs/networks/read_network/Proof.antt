@@ -7,18 +7,12 @@ use native.Mathlib.Omega.{arith}
 use lib.ListN.{length, drop}
 use Rattle.json.specs.machinery.Pieces.{contentOf}
 use Rattle.records.specs.Networks.{networkOf}
-use Rattle.policy.specs.machinery.NetworkTexts.{stepOf, endOf, readOf, readBy}
+use Rattle.policy.specs.machinery.NetworkTexts.{partStep, readOf, readBy}
 use Rattle.policy.specs.declared.networks.Further.the-variants as F
 use Rattle.policy.proofs.NetworkTexts.{Sound, has-room, step-sound, goes-on, fails, closes, shorter}
 use borrow.Author.Needs.{needs}
 use Rattle.policy.proofs.networks.read_network.Statement.{statement}
 use Rattle.policy.proofs.networks.read_network.Tie as tie
-use Rattle.policy.proofs.networks.read_network.Reads as reads
-use Rattle.policy.proofs.networks.read_network.Lts as lts
-use Rattle.json.proofs.pieces.advance.Reads as advance-reads
-use Rattle.json.proofs.pieces.piece_at.Reads as piece-at-reads
-use Rattle.policy.proofs.networks.part_end.Reads as part-end-reads
-use Rattle.policy.proofs.networks.part_step.Reads as part-step-reads
 
 abbrev Inv-loop : tie.InvT-loop
 Inv-loop text from at₀ part₀ number₀ at part number =
@@ -75,11 +69,11 @@ loop-again c =
     let q = c .before .before .next .given .0 .0 in
     let m = c .before .before .next .given .0 .1 .0 in
     let p = sym (c .before .before .before .before .before .before .before .before .piece-at .ensures) ∙ c .before .before .before .before .before .before .byte .given .1 in
-    let f : stepOf (l .part) (l .number) b ≡ F.Goes q m = sym (c .before .before .before .before .part-step .ensures) ∙ c .before .before .next .given .1 in (
+    let f : partStep (l .part) (l .number) b ≡ F.Goes q m = sym (c .before .before .before .before .part-step .ensures) ∙ c .before .before .next .given .1 in (
       rw f at (step-sound (l .part) (l .number) b (l .inv .0)),
       ap (λ (s : List ℕ). readBy q m (contentOf s)) (c .advance .ensures)
-      ∙ sym (goes-on (drop (l .at) (a .text .now)) (l .part) q (l .number) m b wide p f)
-      ∙ l .inv .1,
+          ∙ sym (goes-on (drop (l .at) (a .text .now)) (l .part) q (l .number) m b wide p f)
+          ∙ l .inv .1,
     )
 
 enum-told-2 : tie.Need-enum-told-2 Inv-loop μ-loop

@@ -1,15 +1,10 @@
 -- What is found, step after step, is what is answered.
-use mathlib.Core.Path.{_≡_, refl, sym, _∙_}
-use Rattle.policy.specs.machinery.Outcomes.{Ends, outcomeOf}
+use mathlib.Core.Path.{refl, sym, _∙_}
 use Rattle.policy.specs.declared.reader.JsonAnswer.the-variants as A
-use Rattle.policy.proofs.Outcoming.{answers}
+use Rattle.policy.proofs.Answering.{answers}
 use borrow.Author.Needs.{needs}
 use Rattle.policy.proofs.reader.read_json.Statement.{statement}
 use Rattle.policy.proofs.reader.read_json.Tie as tie
-use Rattle.policy.proofs.reader.read_json.Reads as reads
-use Rattle.policy.proofs.reader.read_json.Lts as lts
-use Rattle.json.proofs.reader.json_fault.Reads as json-fault-reads
-use Rattle.policy.proofs.reader.read_members.Reads as read-members-reads
 
 json-fault-requires : tie.Need-json-fault-requires
 json-fault-requires c κs = search needs

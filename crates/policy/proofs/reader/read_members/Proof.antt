@@ -1,12 +1,8 @@
 -- The members decide.
-use mathlib.Core.Path.{_≡_, refl, sym, _∙_}
+use mathlib.Core.Path.{refl, sym, _∙_}
 use borrow.Author.Needs.{needs}
 use Rattle.policy.proofs.reader.read_members.Statement.{statement}
 use Rattle.policy.proofs.reader.read_members.Tie as tie
-use Rattle.policy.proofs.reader.read_members.Reads as reads
-use Rattle.policy.proofs.reader.read_members.Lts as lts
-use Rattle.members.proofs.checking.members_fault.Reads as members-fault-reads
-use Rattle.policy.proofs.reader.read_records.Reads as read-records-reads
 
 members-fault-requires : tie.Need-members-fault-requires
 members-fault-requires c κs = search needs

@@ -1,12 +1,8 @@
 -- The dry run decides.
-use mathlib.Core.Path.{_≡_, refl, sym, _∙_}
+use mathlib.Core.Path.{refl, sym, _∙_}
 use borrow.Author.Needs.{needs}
 use Rattle.policy.proofs.reader.read_records.Statement.{statement}
 use Rattle.policy.proofs.reader.read_records.Tie as tie
-use Rattle.policy.proofs.reader.read_records.Reads as reads
-use Rattle.policy.proofs.reader.read_records.Lts as lts
-use Rattle.policy.proofs.reader.write_table.Reads as write-table-reads
-use Rattle.policy.proofs.trying.dry_run.Reads as dry-run-reads
 
 dry-run-requires : tie.Need-dry-run-requires
 dry-run-requires c κs = search needs

@@ -1,14 +1,11 @@
 -- 1, then 14, then the writing of all wishes.
-use mathlib.Core.Path.{_≡_, refl, sym, _∙_, ap}
+use mathlib.Core.Path.{refl, ap}
 use lib.ListN.{length}
 use borrow.Author.Tests.{lt-ltb, le-ltb}
 use Rattle.policy.specs.declared.reader.JsonAnswer.the-variants as A
 use borrow.Author.Needs.{needs}
 use Rattle.policy.proofs.reader.write_table.Statement.{statement}
 use Rattle.policy.proofs.reader.write_table.Tie as tie
-use Rattle.policy.proofs.reader.write_table.Reads as reads
-use Rattle.policy.proofs.reader.write_table.Lts as lts
-use Rattle.policy.proofs.writing.write_all.Reads as write-all-reads
 
 returns : tie.Need-returns
 returns c = rw (lt-ltb 16384 (c .before .before .before .args .size) (c .if1 .taken)) (record { answers = refl; leaves = refl })

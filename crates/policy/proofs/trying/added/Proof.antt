@@ -1,13 +1,10 @@
 -- The sum is told where neither test says that it is over 16,384.
 use native.Mathlib.Omega.{arith}
 use Prim.Native.Nat.{_+_}
-use mathlib.Core.Path.{sym, _∙_}
 use borrow.Author.Tests.{le-ltb, lt-ltb}
 use borrow.Author.Needs.{needs}
 use Rattle.policy.proofs.trying.added.Statement.{statement}
 use Rattle.policy.proofs.trying.added.Tie as tie
-use Rattle.policy.proofs.trying.added.Reads as reads
-use Rattle.policy.proofs.trying.added.Lts as lts
 
 add-result : tie.Need-add-result
 add-result c = search needs

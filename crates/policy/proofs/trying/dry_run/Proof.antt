@@ -1,25 +1,17 @@
 -- The invariant: what the wishes left lead to from the state at hand is what all lead to from the fresh one.
-use Prim.Native.Nat.{ℕ, _+_, _≤_}
-use mathlib.Core.Path.{_≡_, refl, sym, _∙_, ap}
+use Prim.Native.Nat.{_+_, _≤_}
+use mathlib.Core.Path.{_≡_, sym, _∙_, ap}
 use mathlib.Core.List.{List, [], _∷_}
 use native.Mathlib.Omega.{arith}
 use lib.ListN.{length}
 use Rattle.records.specs.Wishes.{Wish}
 use Rattle.records.specs.machinery.Cursors.{wishOf, wishesLeft, nextWishes}
-use Rattle.policy.specs.machinery.Asking.{wishWould}
 use Rattle.policy.specs.machinery.Runs.{driedFrom, driedOf}
 use Rattle.policy.proofs.FirstWishes.{first-wishes, fewer}
 use Rattle.policy.proofs.DryRuns.{capped-small, takes-on, stops, ends}
 use borrow.Author.Needs.{needs}
 use Rattle.policy.proofs.trying.dry_run.Statement.{statement}
 use Rattle.policy.proofs.trying.dry_run.Tie as tie
-use Rattle.policy.proofs.trying.dry_run.Reads as reads
-use Rattle.policy.proofs.trying.dry_run.Lts as lts
-use Rattle.policy.proofs.items.try_wish.Reads as try-wish-reads
-use Rattle.policy.proofs.trying.added.Reads as added-reads
-use Rattle.records.proofs.cursor.first.Reads as first-reads
-use Rattle.records.proofs.cursor.next.Reads as next-reads
-use Rattle.stored.proofs.writer.begin.Reads as begin-reads
 
 abbrev Inv-loop : tie.InvT-loop
 Inv-loop text state₀ cursor₀ size₀ state cursor size =
@@ -71,9 +63,9 @@ loop-again c =
     let would = sym (c .before .before .before .before .try-wish .ensures) ∙ c .before .before .after .given .1 in (
       rw (c .added .ensures) (capped-small (l .size + more)),
       rw (c .added .ensures)
-      (sym (takes-on t (wishOf t w p) (wishesLeft t further) (l .state) next (l .size) more would)
-      ∙ ap (λ (ws : List Wish). driedFrom t ws (l .state) (l .size)) (sym left)
-      ∙ l .inv .1),
+          (sym (takes-on t (wishOf t w p) (wishesLeft t further) (l .state) next (l .size) more would)
+          ∙ ap (λ (ws : List Wish). driedFrom t ws (l .state) (l .size)) (sym left)
+          ∙ l .inv .1),
     )
 
 enum-known-number : tie.Need-enum-known-number Inv-loop μ-loop

@@ -9,10 +9,6 @@ use Rattle.policy.proofs.Copying.{goes-on, whole, full}
 use borrow.Author.Needs.{needs}
 use Rattle.policy.proofs.values.copy_string.Statement.{statement}
 use Rattle.policy.proofs.values.copy_string.Tie as tie
-use Rattle.policy.proofs.values.copy_string.Reads as reads
-use Rattle.policy.proofs.values.copy_string.Lts as lts
-use Rattle.json.proofs.pieces.advance.Reads as advance-reads
-use Rattle.json.proofs.pieces.piece_at.Reads as piece-at-reads
 
 abbrev Inv-loop : tie.InvT-loop
 Inv-loop text from bytes₀ at₀ i₀ bytes at i =
@@ -67,7 +63,7 @@ loop-again c =
       simp length-set (omega arith),
       simp length-set (l .inv .1),
       ap (λ (s : List ℕ). take (l .i + 1) (set (l .bytes) (l .i) b) ++ contentOf s) (c .advance .ensures)
-      ∙ goes-on (l .bytes) (drop (l .at) (a .text .now)) (contentOf (drop (a .from) (a .text .now))) (l .i) b n (c .before .before .before .before .before .loop-test .taken) p (l .inv .2),
+          ∙ goes-on (l .bytes) (drop (l .at) (a .text .now)) (contentOf (drop (a .from) (a .text .now))) (l .i) b n (c .before .before .before .before .before .loop-test .taken) p (l .inv .2),
     )
 
 same-length-2 : tie.Need-same-length-2 Inv-loop μ-loop

@@ -1,26 +1,18 @@
 -- The invariant: the wishes left, poured by the writer at hand into the table as it is, leave what all leave.
-use Prim.Native.Nat.{ℕ, _≤_}
 use mathlib.Core.Path.{_≡_, refl, sym, _∙_, ap}
 use mathlib.Core.List.{List, [], _∷_}
 use native.Mathlib.Omega.{arith}
 use lib.ListN.{length}
 use Rattle.stored.specs.Writing.{bufferAfter}
-use Rattle.stored.specs.declared.writer.WriteAnswer.{WriteAnswer}
 use Rattle.records.specs.Wishes.{Wish}
 use Rattle.records.specs.machinery.Cursors.{wishOf, wishesLeft, nextWishes}
-use Rattle.policy.specs.machinery.Asking.{wishRecord, wishWriting}
+use Rattle.policy.specs.machinery.Asking.{wishRecord}
 use Rattle.policy.specs.machinery.Runs.{Poured, pouring, pouredOf}
 use Rattle.policy.proofs.FirstWishes.{first-wishes, fewer}
 use Rattle.policy.proofs.Pouring.{adds, breaks-off}
 use borrow.Author.Needs.{needs}
 use Rattle.policy.proofs.writing.write_all.Statement.{statement}
 use Rattle.policy.proofs.writing.write_all.Tie as tie
-use Rattle.policy.proofs.writing.write_all.Reads as reads
-use Rattle.policy.proofs.writing.write_all.Lts as lts
-use Rattle.policy.proofs.items.write_wish.Reads as write-wish-reads
-use Rattle.records.proofs.cursor.first.Reads as first-reads
-use Rattle.records.proofs.cursor.next.Reads as next-reads
-use Rattle.stored.proofs.writer.begin.Reads as begin-reads
 
 abbrev Inv-loop : tie.InvT-loop
 Inv-loop text table₀ writer₀ cursor₀ table writer cursor =
@@ -71,9 +63,9 @@ loop-again c =
     let laid = y .ensures .1 ∙ ap (bufferAfter (l .writer .at) (wishRecord x) (l .table)) (c .before .after .given .1) in (
       y .kept .1 .1 .1 .1 .0 ∙ l .inv .0,
       ap (pouring (wishesLeft t further) next) laid
-      ∙ sym (adds x (wishesLeft t further) (l .writer) next (l .table) answer)
-      ∙ ap (λ (ws : List Wish). pouring ws (l .writer) (l .table)) (sym left)
-      ∙ l .inv .1,
+          ∙ sym (adds x (wishesLeft t further) (l .writer) next (l .table) answer)
+          ∙ ap (λ (ws : List Wish). pouring ws (l .writer) (l .table)) (sym left)
+          ∙ l .inv .1,
     )
 
 enum-told : tie.Need-enum-told Inv-loop μ-loop
@@ -95,7 +87,7 @@ returns c =
     let answer = sym (y .ensures .0) ∙ c .enum-told .given .1 in
     let laid = y .ensures .1 ∙ ap (bufferAfter (l .writer .at) (wishRecord x) (l .table)) (c .enum-told .given .1) in
     let all = sym (breaks-off x (wishesLeft t further) (l .writer) (l .table) _ _ answer)
-        ∙ ap (λ (ws : List Wish). pouring ws (l .writer) (l .table)) (sym left) ∙ l .inv .1 in
+    ∙ ap (λ (ws : List Wish). pouring ws (l .writer) (l .table)) (sym left) ∙ l .inv .1 in
     (ap (λ (r : Poured). r .size) all, laid ∙ ap (λ (r : Poured). r .left) all)
 
 enum-told-2 : tie.Need-enum-told-2 Inv-loop μ-loop
