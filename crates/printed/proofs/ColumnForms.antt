@@ -6,8 +6,9 @@ use lib.ListN.{length}
 use Rattle.json.specs.Trees.{Tree}
 use Rattle.json.specs.Trees.Shape.{one, several, named}
 use Rattle.json.proofs.Choosing.{never}
-use Rattle.members.specs.Members as Mb
-use Rattle.members.specs.Members.{following, place, topNames, rowNames, versionText, topKind, rowKind, awsKind, isSeen}
+use Rattle.members.specs.machinery.Verdicts as Mb
+use Rattle.members.specs.Members.{place, topNames, rowNames, versionText, topKind, rowKind, awsKind}
+use Rattle.members.specs.machinery.Verdicts.{following, isSeen}
 use Rattle.members.specs.Members.Verdict.{fine}
 use Rattle.stored.specs.Items.{columnPlace}
 use Rattle.stored.specs.Entries.Entry.{start, statement, column, end}

@@ -8,8 +8,8 @@ use lib.Dec.{eqb}
 use lib.ListN.{length}
 use native.Mathlib.Omega.{arith}
 use borrow.Author.Tests.{ne-eqb}
-use Rattle.members.specs.Members as Mb
-use Rattle.members.specs.Members.{isSeen, add}
+use Rattle.members.specs.machinery.Verdicts as Mb
+use Rattle.members.specs.machinery.Verdicts.{isSeen, add}
 use Rattle.members.specs.Members.Verdict.{fine}
 use Rattle.stored.specs.Choice.{pick, In}
 use Rattle.stored.specs.Operators.{rowOf}

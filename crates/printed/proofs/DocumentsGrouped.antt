@@ -12,8 +12,9 @@ use Rattle.json.specs.Trees.{Tree}
 use Rattle.json.specs.Trees.Shape.{one, several, named}
 use Rattle.json.specs.Trees.Tree.{text, other, list, object, end-list, element, end-object, member}
 use Rattle.json.proofs.Choosing.{never}
-use Rattle.members.specs.Members as Mb
-use Rattle.members.specs.Members.{topKind, rowKind, rowSlot, add, isBad}
+use Rattle.members.specs.machinery.Verdicts as Mb
+use Rattle.members.specs.Members.{topKind, rowKind, rowSlot}
+use Rattle.members.specs.machinery.Verdicts.{add, isBad}
 use Rattle.members.specs.Members.Verdict.{fine}
 use Rattle.stored.specs.Choice.{In}
 use Rattle.stored.specs.Tables.{Statement}

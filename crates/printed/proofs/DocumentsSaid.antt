@@ -8,7 +8,7 @@ use native.Mathlib.Omega.{arith}
 use Rattle.json.specs.Trees.{Tree, treeOf}
 use Rattle.json.specs.Trees.Shape.{one, several, named}
 use Rattle.json.specs.Grammar.{Text}
-use Rattle.members.specs.Members as Mb
+use Rattle.members.specs.machinery.Verdicts as Mb
 use Rattle.members.specs.Members.{versionText}
 use Rattle.members.specs.Members.Verdict.{fine}
 use Rattle.stored.specs.Entries.Entry.{end}

@@ -21,11 +21,10 @@ use Rattle.stored.specs.declared.reader.ReadAnswer.the-variants as A
 use Rattle.stored.proofs.Promises.{three-elements, sound-values, whole-rows}
 use Rattle.stored.proofs.Accepting.{accepted, read-through}
 use Rattle.stored.proofs.EntriesFor.{stands-for}
-use Rattle.records.specs.TableEntries.{listedEntries, elementEntries, conditionEntries, statementEntries, tableEntries}
 use Rattle.records.specs.Wishes.{wishes, entries}
 use Rattle.records.proofs.Wished.{wished}
 use Rattle.printed.specs.Grouped.{Grouped}
-use Rattle.printed.specs.Makes.{Makes}
+use Rattle.printed.specs.machinery.Makes.{Makes}
 use Rattle.printed.specs.machinery.Plans.{printed}
 use Rattle.printed.proofs.Grouping.{groups-once}
 use Rattle.printed.proofs.ValuesSaid.{holds, Holds}
@@ -33,28 +32,6 @@ use Rattle.printed.proofs.ConditionsSaid.{groups-hold}
 use Rattle.printed.proofs.RowsSaid.{three-of, Ready}
 use Rattle.printed.proofs.DocumentsSaid.{AllReady, runs, printed-text, printed-fine, printed-says, printed-made}
 use Rattle.printed.proofs.Addresses.{table-fits, SmallRow, rows-small}
-
--- the same entries
-same-listed : (l : List Listed) (es : List Entry) → listedEntries l es ≡ listedFor l es
-same-listed [] es = refl
-same-listed (Listed.text bs ∷ l) es = ap (λ (xs : List Entry). value bs ∷ xs) (same-listed l es)
-same-listed (Listed.range a n ∷ l) es = ap (λ (xs : List Entry). network a n ∷ xs) (same-listed l es)
-
-same-elements : (l : List Element) (es : List Entry) → elementEntries l es ≡ elementsFor l es
-same-elements [] es = refl
-same-elements (x ∷ l) es = rw (same-elements l es, same-listed (x .values) (elementsFor l es))
-
-same-conditions : (l : List Condition) (es : List Entry) → conditionEntries l es ≡ conditionsFor l es
-same-conditions [] es = refl
-same-conditions (x ∷ l) es = rw (same-conditions l es, same-listed (x .values) (conditionsFor l es))
-
-same-statements : (l : List Statement) → statementEntries l (end ∷ []) ≡ statementsFor l
-same-statements [] = refl
-same-statements (s ∷ l) =
-    rw (same-statements l, same-conditions (s .conditions) (statementsFor l), same-elements (s .elements) (conditionsFor (s .conditions) (statementsFor l)))
-
-pub same-entries : (rows : List Statement) → tableEntries rows ≡ entriesFor rows
-same-entries rows = ap (λ (xs : List Entry). start (length rows) ∷ xs) (same-statements rows)
 
 -- a statement of a table can be printed
 ready : (s : Statement) → WellFormed s → SoundStatement s → SmallRow s → Grouped s → Ready s
@@ -91,7 +68,7 @@ module _ (table : List ℕ) (n : ℕ) (b : Bytes table) (e : reading table ≡ A
   follows =
       subst (Follows freshState)
       (sym (wished (treeOf (printed-text (rowsOf table) can-print .value-first))
-      ∙ ap tableEntries (printed-says (rowsOf table) can-print) ∙ same-entries (rowsOf table) ∙ sym (stands-for table n e)))
+      ∙ ap entriesFor (printed-says (rowsOf table) can-print) ∙ sym (stands-for table n e)))
       (accepted table n e)
 
   pub makes : Makes (printed (rowsOf table)) table

@@ -13,5 +13,5 @@ pub mod Addresses
 pub mod EveryTable
 pub mod OnceInTrees
 pub mod DocumentsGrouped
-pub mod OtherTables
+pub mod Answering
 pub mod Promises

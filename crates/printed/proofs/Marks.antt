@@ -6,7 +6,7 @@ use native.Mathlib.Nat.{pow-succ', div-one, zero-div, div-div-eq-div-mul}
 use native.Mathlib.Omega.{arith}
 use lib.Bits.{bitOr, or-step, or-shr}
 use lib.Dec.{eqb, eqb·zero-suc, eqb·suc-zero, eqb·suc-suc}
-use Rattle.members.specs.Members.{isSeen, add}
+use Rattle.members.specs.machinery.Verdicts.{isSeen, add}
 
 or-lowest : (r s n q : ℕ) → r < 2 → s < 2 → n ≡ q * 2 + max r s → eqb (n % 2) 1 ≡ (eqb r 1 || eqb s 1)
 or-lowest zero zero n q low small is = ap (λ (m : ℕ). eqb m 1) {x = n % 2} {y = 0} (omega arith)

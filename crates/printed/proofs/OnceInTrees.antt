@@ -13,8 +13,9 @@ use Rattle.json.specs.Trees.{Tree}
 use Rattle.json.specs.Trees.Shape.{one, named}
 use Rattle.json.specs.Trees.Tree.{text, other, list, object, end-object, member}
 use Rattle.json.proofs.Choosing.{never, both-left, both-right}
-use Rattle.members.specs.Members as Mb
-use Rattle.members.specs.Members.{Verdict, following, placeFrom, operatorNames, keyNames, small, operatorKind, keyKind, isSeen, add, isBad}
+use Rattle.members.specs.machinery.Verdicts as Mb
+use Rattle.members.specs.Members.{Verdict, placeFrom, operatorNames, keyNames, small, operatorKind, keyKind}
+use Rattle.members.specs.machinery.Verdicts.{following, isSeen, add, isBad}
 use Rattle.members.specs.Members.Verdict.{fine, refused}
 use Rattle.stored.specs.Operators.{rowOf}
 use Rattle.stored.specs.Tables.{Condition}

@@ -9,8 +9,9 @@ use native.Mathlib.Omega.{arith}
 use Rattle.json.specs.Trees.{Tree}
 use Rattle.json.specs.Trees.Shape.{one, named}
 use Rattle.json.proofs.Choosing.{never}
-use Rattle.members.specs.Members as Mb
-use Rattle.members.specs.Members.{Verdict, following}
+use Rattle.members.specs.machinery.Verdicts as Mb
+use Rattle.members.specs.Members.{Verdict}
+use Rattle.members.specs.machinery.Verdicts.{following}
 use Rattle.members.specs.Members.Verdict.{fine}
 use Rattle.stored.specs.Choice.{In}
 use Rattle.stored.specs.Items.{columnPlace}

@@ -9,7 +9,7 @@ use lib.ListN.{length}
 use native.Mathlib.Omega.{arith}
 use borrow.Author.Tests.{leb-true}
 use Rattle.json.proofs.Choosing.{both-left}
-use Rattle.members.specs.Members as Mb
+use Rattle.members.specs.machinery.Verdicts as Mb
 use Rattle.members.specs.Members.Verdict.{fine}
 use Rattle.stored.specs.Choice.{In}
 use Rattle.stored.specs.Form.{MayHold}

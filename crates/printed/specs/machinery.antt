@@ -3,3 +3,4 @@ pub mod Values
 pub mod NetworkTexts
 pub mod Groups
 pub mod Plans
+pub mod Makes

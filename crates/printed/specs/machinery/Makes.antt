@@ -5,7 +5,7 @@ use mathlib.Core.List.{List}
 use lib.ListN.{length}
 use Rattle.json.specs.Grammar.{Text}
 use Rattle.json.specs.Trees.{treeOf}
-use Rattle.members.specs.Members.{document}
+use Rattle.members.specs.machinery.Verdicts.{document}
 use Rattle.members.specs.Members.Verdict.{fine}
 use Rattle.records.specs.Documents.{statementsOf}
 use Rattle.records.specs.Records.{recordsOf}
