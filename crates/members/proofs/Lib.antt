@@ -8,4 +8,5 @@ pub mod FirstFault
 pub mod Places
 pub mod Order
 pub mod Examples
+pub mod Answering
 pub mod Promises

@@ -12,7 +12,8 @@ use Rattle.json.specs.machinery.Reading.{faultOf}
 use Rattle.json.specs.declared.reader.Fault.{Fault}
 use Rattle.json.specs.declared.reader.Fault.the-variants as F
 use Rattle.json.specs.Answers.{Says}
-use Rattle.json.proofs.Promises.{json-first-fault, json-sound, one-fault}
+use Rattle.json.proofs.Answering.{json-first-fault, json-sound}
+use Rattle.json.proofs.Promises.{one-fault}
 use Rattle.json.proofs.Tokenizing.{text-tokens}
 use Rattle.stored.specs.Machine.{freshState}
 use Rattle.stored.specs.Writing.{freshWriter}
@@ -29,7 +30,8 @@ use Rattle.members.specs.machinery.Levels.{membersOf}
 use Rattle.members.specs.declared.checking.Checked.{Checked}
 use Rattle.members.specs.declared.checking.Checked.the-variants as C
 use Rattle.members.proofs.FirstFault.{first, first-fault}
-use Rattle.members.proofs.Promises.{json-members, json-lowest, one-decision}
+use Rattle.members.proofs.Answering.{json-members, json-lowest}
+use Rattle.members.proofs.Promises.{one-decision}
 use Rattle.records.specs.Documents.{statementsOf}
 use Rattle.records.specs.Wishes.{Wish, wishes, entries}
 use Rattle.records.specs.Records.{running, sizeOf, recordsOf}
