@@ -7,4 +7,5 @@ pub mod ShownStrings
 pub mod AskedBack
 pub mod GapsShown
 pub mod AskedJudged
+pub mod JsonBack
 pub mod Promises

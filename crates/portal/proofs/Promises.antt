@@ -1,13 +1,15 @@
 -- What the entry points promise beyond their contracts, in statements that can be read without their proofs: what the numbers that they
--- return say, what the answers of one mean in the answers of the others, and that each leaves one possible answer, and `stamenhum_gap`, the
--- only one that is lent memory to write to, one possible content of it. What an outcome may be is word for word the contract's (src/lib.rt):
--- an equation for `stamenhum_judge`, `Counts` for `stamenhum_gaps` and `Shows` for `stamenhum_gap`.
+-- return say, what the answers of one mean in the answers of the others, and that each leaves one possible answer, and `stamenhum_gap` and
+-- `stamenhum_read_json`, which are lent memory to write to, one possible content of it. What an outcome may be is word for word the
+-- contract's (src/lib.rt): an equation for `stamenhum_judge`, `Counts` for `stamenhum_gaps`, `Shows` for `stamenhum_gap` and `ReadsJson` for
+-- `stamenhum_read_json`.
 use Prim.Native.Nat.{ℕ, _*_, _^_, _≤_, _<_}
 use mathlib.Core.Path.{_≡_, _∙_, sym, ap}
 use mathlib.Core.Bool.{true, false}
 use mathlib.Core.List.{List}
 use mathlib.Core.Logic.{_↔_}
 use lib.ListN.{length, take, drop}
+use Rattle.json.specs.Grammar.{Text}
 use Rattle.stored.specs.Choice.{some}
 use Rattle.stored.specs.Values.{inRange}
 use Rattle.judging.specs.Requests.{Value, columns, firstFault, requestOf}
@@ -22,15 +24,18 @@ use Rattle.comparing.specs.declared.answers.Shape.{Shape}
 use Rattle.comparing.specs.declared.answers.Showing.{Showing}
 use Rattle.comparing.specs.declared.answers.Showing.the-variants as S
 use Rattle.comparing.proofs.Promises.{one-answer, one-answer-shown}
+use Rattle.records.specs.Documents.{statementsOf}
+use Rattle.policy.specs.Answers.{documentOf}
 use Rattle.portal.specs.Codes.{presentOf, judgementCode, countingCode, showingCode}
-use Rattle.portal.specs.Answers.{Counts, Shows}
-use Rattle.portal.specs.Saying.{JudgeSays, GapsSay, GapSays}
+use Rattle.portal.specs.Answers.{Counts, Shows, ReadsJson}
+use Rattle.portal.specs.Saying.{JudgeSays, GapsSay, GapSays, JsonSays}
 use Rattle.portal.specs.Asked.{Asked, CanBeAsked, requestAsked, judgeReturns, shownString, askedBy}
 use Rattle.portal.proofs.JudgeBack
 use Rattle.portal.proofs.GapsBack
 use Rattle.portal.proofs.AskedBack
 use Rattle.portal.proofs.AskedJudged
 use Rattle.portal.proofs.GapsShown
+use Rattle.portal.proofs.JsonBack
 
 -- Demand 1 at the door, "an answer or a numbered refusal" (RULES 9.3, 9.4). Every number that `stamenhum_judge` may return for a table and
 -- a request says the judgement: 0, 1 and 2 the three verdicts, and any number from 2 ^ 32 on the refusal whose number and place are read
@@ -143,3 +148,21 @@ one-answer-gap first second k before r s after after' (answer, shown, coded) (ot
   where
     same : _≡_ {A = Showing × List ℕ} (answer, after) (other, after')
     same = one-answer-shown k before 8192 first second (answer, after) (other, after') shown shown'
+
+-- Every number that `stamenhum_read_json` may return says the answer (RULES 9.6): below 2 ^ 56 so many bytes of the buffer are the table, and
+-- from there on the text is refused with the number and the place that are read off it, and the buffer is as it came.
+pub json-read-back : (json before : List ℕ) (r : ℕ) (after : List ℕ) → ReadsJson json before r after → JsonSays json before r after
+json-read-back = JsonBack.json-read-back
+
+-- Any two outcomes that its contract permits for a text and a buffer are equal: the number, and what the buffer then holds.
+pub one-answer-json : (json before : List ℕ) (r s : ℕ) (after after' : List ℕ)
+    → ReadsJson json before r after → ReadsJson json before s after' → (r ≡ s) × (after ≡ after')
+one-answer-json = JsonBack.one-answer-json
+
+-- "What the table means equals what the document says": by the table that `stamenhum_read_json` has written, `stamenhum_judge` returns 1
+-- exactly when no column of the request is faulty and some allow statement of the document applies and no deny statement does. A document's
+-- statements do not depend on the way in which its text is one of the grammar (`one-tree` of `json`).
+pub json-judged : (json before : List ℕ) (r : ℕ) (after : List ℕ) → ReadsJson json before r after → r < 2 ^ 56 → (x : Text json) (q : Asked)
+    → (judgeReturns (take r after) q ≡ 1)
+    ↔ ((firstFault 0 (requestAsked q) ≡ columns) × (isAllowed (requestAsked q) (statementsOf (documentOf x)) ≡ true))
+json-judged = JsonBack.judged

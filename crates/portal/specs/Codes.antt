@@ -67,9 +67,13 @@ abbrev pub showingCode : Showing → ℕ
 showingCode (S.Shown shape) = shapeCode shape
 showingCode (S.Refused n table place) = refusalCode n table place
 
--- the number and the place of a policy's refusal; a place of 2 ^ 56 - 1 or more is given as 2 ^ 56 - 1
+-- a place as a policy's refusal gives it: 2 ^ 56 - 1 where it is that or more
+abbrev pub givenPlace : ℕ → ℕ
+givenPlace place = pick (ltb place 0xFFFFFFFFFFFFFF) place 0xFFFFFFFFFFFFFF
+
+-- the number and the place of a policy's refusal
 abbrev pub jsonRefusalCode : ℕ → ℕ → ℕ
-jsonRefusalCode number place = number * 0x100000000000000 + pick (ltb place 0xFFFFFFFFFFFFFF) place 0xFFFFFFFFFFFFFF
+jsonRefusalCode number place = number * 0x100000000000000 + givenPlace place
 
 -- the bytes written
 abbrev pub jsonCode : JsonAnswer → ℕ
