@@ -2,6 +2,7 @@
 use Prim.Native.Nat.{ℕ}
 use mathlib.Core.List.{List, [], _∷_}
 use lib.Dec.{eqb}
+use Rattle.json.specs.Texts.{ascii}
 use Rattle.json.specs.Trees.{Tree}
 use Rattle.json.specs.Trees.Shape.{one, several, named}
 use Rattle.json.specs.Trees.Tree.{text, other, list, object, end-list, element, end-object, member}
@@ -81,10 +82,10 @@ holder (list n es) = list n es
 holder (object n ms) = under awsKind 1 ms
 
 unfoldable pub allowText : List ℕ
-allowText = 0x41 ∷ 0x6C ∷ 0x6C ∷ 0x6F ∷ 0x77 ∷ []
+allowText = ascii "Allow"
 
 unfoldable pub denyText : List ℕ
-denyText = 0x44 ∷ 0x65 ∷ 0x6E ∷ 0x79 ∷ []
+denyText = ascii "Deny"
 
 -- Allow, or any other
 abbrev pub effectOf : List ℕ → Effect

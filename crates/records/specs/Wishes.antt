@@ -5,8 +5,7 @@ use lib.ListN.{length}
 use Rattle.json.specs.Trees.{Tree}
 use Rattle.json.specs.Trees.Shape.{one, several, named}
 use Rattle.json.specs.Trees.Tree.{text, other, list, object, end-list, element, end-object, member}
-use Rattle.json.specs.Choice.{pick}
-use Rattle.json.specs.Choice.{sameBytes}
+use Rattle.json.specs.Choice.{pick, sameBytes}
 use Rattle.stored.specs.Operators.{rowOf}
 use Rattle.stored.specs.Entries.{Entry}
 use Rattle.stored.specs.Entries.Entry.{start, statement, column, condition, network, value, end}
