@@ -39,8 +39,8 @@ use Rattle.records.specs.machinery.Streams.{documentFrom}
 use Rattle.records.proofs.Streaming.{document-from}
 use Rattle.records.proofs.Wished.{wished}
 use Rattle.records.proofs.Means.{json-means}
-use Rattle.policy.specs.Answers.{documentOf, tableFor, Taken, Answered}
-use Rattle.policy.specs.Answers.Answered.{no-text, wrong-member, wrong-record, too-long, no-room, written}
+use Rattle.policy.specs.Answers.{documentOf, tableFor, Taken, JsonAnswered}
+use Rattle.policy.specs.Answers.JsonAnswered.{no-text, wrong-member, wrong-record, too-long, no-room, written}
 use Rattle.policy.specs.machinery.Runs.{wishesOf, capped, dried, driedFrom, driedOf, pouring, pouredOf}
 use Rattle.policy.specs.machinery.Endings.{Ending, Ends, byRecords, byMembers, endingOf}
 use Rattle.policy.specs.declared.trying.Dried.the-variants as D
@@ -121,7 +121,7 @@ module _ {t : List ℕ} (buffer : List ℕ) (x : Text t) where
   at-size h = at-records (h .sound-members) ∙ rw (dried-fine x (h .sound-members) (h .sound-records))
 
 -- what is answered is what the reader finds
-pub found : {t buffer : List ℕ} {r : JsonAnswer} {left : List ℕ} → Answered t buffer r left → endingOf t buffer ≡ record { answer = r; left = left }
+pub found : {t buffer : List ℕ} {r : JsonAnswer} {left : List ℕ} → JsonAnswered t buffer r left → endingOf t buffer ≡ record { answer = r; left = left }
 found {t} {buffer} (no-text {p} f) = rw (one-fault t (faultOf t) (F.At p) (json-first-fault t) f)
 found {t} {buffer} (wrong-member {k} {p} x l) =
     at-members buffer x ∙ ap (byMembers t buffer) (one-decision (length t) (faults (documentOf x)) (membersOf t) (C.Refused k p) (json-lowest t x) l)
@@ -138,7 +138,7 @@ found {t} {buffer} (written x h a b) =
 pub record Some (t buffer : List ℕ) : Type 0 where
   pub answer : JsonAnswer
   pub left : List ℕ
-  pub answered : Answered t buffer answer left
+  pub answered : JsonAnswered t buffer answer left
 
 -- that of a text, by one of its derivations
 module _ {t : List ℕ} (buffer : List ℕ) (x : Text t) where
@@ -167,16 +167,16 @@ some-answer t buffer = by (faultOf t) (json-first-fault t)
     by (F.At p) f = record { answer = _; left = _; answered = no-text f }
 
 -- what the reader finds is answered
-pub answers : (t buffer : List ℕ) (r : JsonAnswer) (left : List ℕ) → Ends (endingOf t buffer) r left → Answered t buffer r left
+pub answers : (t buffer : List ℕ) (r : JsonAnswer) (left : List ℕ) → Ends (endingOf t buffer) r left → JsonAnswered t buffer r left
 answers t buffer r left e =
     let s = some-answer t buffer in
     let f = found (s .answered) in
     let a : s .answer ≡ r = ap (λ (o : Ending). o .answer) (sym f) ∙ sym (e .answers) in
     let b : s .left ≡ left = ap (λ (o : Ending). o .left) (sym f) ∙ sym (e .leaves) in
-    subst (λ (l : List ℕ). Answered t buffer r l) b (subst (λ (q : JsonAnswer). Answered t buffer q (s .left)) a (s .answered))
+    subst (λ (l : List ℕ). JsonAnswered t buffer r l) b (subst (λ (q : JsonAnswer). JsonAnswered t buffer q (s .left)) a (s .answered))
 
 -- two answers to one text and buffer are one
-pub one-answer : (t buffer : List ℕ) (r q : JsonAnswer) (left rest : List ℕ) → Answered t buffer r left → Answered t buffer q rest → (r ≡ q) × (left ≡ rest)
+pub one-answer : (t buffer : List ℕ) (r q : JsonAnswer) (left rest : List ℕ) → JsonAnswered t buffer r left → JsonAnswered t buffer q rest → (r ≡ q) × (left ≡ rest)
 one-answer t buffer r q left rest x y =
     let e : _≡_ {A = Ending} (record { answer = r; left = left }) (record { answer = q; left = rest }) = sym (found x) ∙ found y in
     (ap (λ (o : Ending). o .answer) e, ap (λ (o : Ending). o .left) e)

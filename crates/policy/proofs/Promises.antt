@@ -1,4 +1,4 @@
--- What the reader of policies promises, in statements that can be read without their proofs. `Answered` is its contract: what is answered for
+-- What the reader of policies promises, in statements that can be read without their proofs. `JsonAnswered` is its contract: what is answered for
 -- a text and a buffer, and what the buffer then holds.
 use Prim.Native.Nat.{ℕ}
 use mathlib.Core.Path.{_≡_, refl, sym, _∙_, ap}
@@ -18,8 +18,8 @@ use Rattle.stored.specs.declared.reader.ReadAnswer.the-variants as R
 use Rattle.stored.proofs.Choosing.{never}
 use Rattle.records.specs.Documents.{statementsOf}
 use Rattle.records.specs.Wishes.{wishes}
-use Rattle.policy.specs.Answers.{documentOf, tableFor, Answered}
-use Rattle.policy.specs.Answers.Answered.{no-text, wrong-member, wrong-record, too-long, no-room, written}
+use Rattle.policy.specs.Answers.{documentOf, tableFor, JsonAnswered}
+use Rattle.policy.specs.Answers.JsonAnswered.{no-text, wrong-member, wrong-record, too-long, no-room, written}
 use Rattle.records.specs.Networks as N
 use Rattle.records.specs.Networks.{networkOf}
 use Rattle.policy.specs.Networks.{IsNetwork}
@@ -31,17 +31,17 @@ use Rattle.policy.proofs.Answering.{some-answer, one-answer, table-read
 
 -- "The answer and the buffer are an equation for every text and every buffer": there is an answer, and one only.
 pub json-exactly : (t buffer : List ℕ)
-    → (r : JsonAnswer) × (left : List ℕ) × Answered t buffer r left
-    × ((q : JsonAnswer) (rest : List ℕ) → Answered t buffer q rest → (q ≡ r) × (rest ≡ left))
+    → (r : JsonAnswer) × (left : List ℕ) × JsonAnswered t buffer r left
+    × ((q : JsonAnswer) (rest : List ℕ) → JsonAnswered t buffer q rest → (q ≡ r) × (rest ≡ left))
 json-exactly t buffer =
     let s = some-answer t buffer in
     (s .answer, s .left, s .answered, λ q rest x. one-answer t buffer q (s .answer) rest (s .left) x (s .answered))
 
 -- "20 has the place that is said in terms of texts that are accepted": it is answered just where the text is none, and with that place.
-pub json-first-fault : (t buffer left : List ℕ) (p : ℕ) → Answered t buffer (A.Refused 20 p) left ↔ (FirstFault t p × (left ≡ buffer))
+pub json-first-fault : (t buffer left : List ℕ) (p : ℕ) → JsonAnswered t buffer (A.Refused 20 p) left ↔ (FirstFault t p × (left ≡ buffer))
 json-first-fault t buffer left p = (λ x. by x refl, λ f. rw (f .1) (no-text (f .0)))
   where
-    by : {r : JsonAnswer} {rest : List ℕ} → Answered t buffer r rest → r ≡ A.Refused 20 p → FirstFault t p × (rest ≡ buffer)
+    by : {r : JsonAnswer} {rest : List ℕ} → JsonAnswered t buffer r rest → r ≡ A.Refused 20 p → FirstFault t p × (rest ≡ buffer)
     by (no-text {p = q} f) e = let same : q ≡ p = cc in (rw (sym same) f, refl)
     by (wrong-member {k} {p = q} x l) e =
         let same : k ≡ 20 = cc in
@@ -55,13 +55,13 @@ json-first-fault t buffer left p = (λ x. by x refl, λ f. rw (f .1) (no-text (f
 
 -- "The statements of the written table are those of the document, member by member and in order, and the reader accepts it." The rest of the
 -- buffer is as it was.
-pub json-means : (t buffer left : List ℕ) (n : ℕ) → Answered t buffer (A.Written n) left → (x : Text t)
+pub json-means : (t buffer left : List ℕ) (n : ℕ) → JsonAnswered t buffer (A.Written n) left → (x : Text t)
     → (reading (take n left) ≡ R.Accepted (length (statementsOf (documentOf x))))
     × (rowsOf (take n left) ≡ statementsOf (documentOf x))
     × (drop n left ≡ drop n buffer)
 json-means t buffer left n y x = by y refl
   where
-    by : {r : JsonAnswer} {rest : List ℕ} → Answered t buffer r rest → r ≡ A.Written n
+    by : {r : JsonAnswer} {rest : List ℕ} → JsonAnswered t buffer r rest → r ≡ A.Written n
         → (reading (take n rest) ≡ R.Accepted (length (statementsOf (documentOf x)))) × (rowsOf (take n rest) ≡ statementsOf (documentOf x)) × (drop n rest ≡ drop n buffer)
     by (no-text f) e = never (cc)
     by (wrong-member w l) e = never (cc)

@@ -29,18 +29,18 @@ pub record Taken {t : List ℕ} (x : Text t) : Type 0 where
   pub sound-records : recordsOf (documentOf x) ≡ fine
 
 -- Places are counted from the text's first byte; those of records are said as the bytes left there.
-pub data Answered (t buffer : List ℕ) : JsonAnswer → List ℕ → Type 0 where
+pub data JsonAnswered (t buffer : List ℕ) : JsonAnswer → List ℕ → Type 0 where
   -- the text is not JSON
-  no-text : {p : ℕ} → FirstFault t p → Answered t buffer (A.Refused 20 p) buffer
+  no-text : {p : ℕ} → FirstFault t p → JsonAnswered t buffer (A.Refused 20 p) buffer
   -- 21 and 22: the fault with the lowest place
-  wrong-member : {k p : ℕ} (x : Text t) → Lowest (length t) (faults (documentOf x)) k p → Answered t buffer (A.Refused k p) buffer
+  wrong-member : {k p : ℕ} (x : Text t) → Lowest (length t) (faults (documentOf x)) k p → JsonAnswered t buffer (A.Refused k p) buffer
   -- 3 to 8: the first record that is refused
   wrong-record : {k n : ℕ} (x : Text t) → faults (documentOf x) ≡ [] → recordsOf (documentOf x) ≡ refused k n
-      → Answered t buffer (A.Refused k (length t - n)) buffer
+      → JsonAnswered t buffer (A.Refused k (length t - n)) buffer
   -- the table would be over 16,384 bytes
-  too-long : (x : Text t) → Taken x → 16384 < length (tableFor x) → Answered t buffer (A.Refused 1 16384) buffer
+  too-long : (x : Text t) → Taken x → 16384 < length (tableFor x) → JsonAnswered t buffer (A.Refused 1 16384) buffer
   -- the buffer is shorter than the table
-  no-room : (x : Text t) → Taken x → length (tableFor x) ≤ 16384 → length buffer < length (tableFor x) → Answered t buffer (A.Refused 14 0) buffer
+  no-room : (x : Text t) → Taken x → length (tableFor x) ≤ 16384 → length buffer < length (tableFor x) → JsonAnswered t buffer (A.Refused 14 0) buffer
   -- the buffer holds the table, and behind it what it held
   written : (x : Text t) → Taken x → length (tableFor x) ≤ 16384 → length (tableFor x) ≤ length buffer
-      → Answered t buffer (A.Written (length (tableFor x))) (tableFor x ++ drop (length (tableFor x)) buffer)
+      → JsonAnswered t buffer (A.Written (length (tableFor x))) (tableFor x ++ drop (length (tableFor x)) buffer)

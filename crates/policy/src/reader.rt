@@ -8,7 +8,7 @@ use members::checking::Checked;
 use members::checking::members_fault;
 use stored::limits::MOST_BYTES;
 ghost use mathlib.Core.Path.{_≡_};
-ghost use Rattle.policy.specs.Answers.{Answered};
+ghost use Rattle.policy.specs.Answers.{JsonAnswered};
 ghost use Rattle.policy.specs.machinery.Endings.{Ends, byFault, byMembers, byRecords};
 ghost use Rattle.policy.specs.declared.trying.Dried.the-variants as D;
 ghost use Rattle.members.specs.declared.checking.Checked.the-variants as C;
@@ -56,7 +56,7 @@ fn read_members(text: &[u8], table: &mut [u8]) -> JsonAnswer
 
 // Reads a policy into a table. A refusal leaves the table's bytes as they were.
 pub fn read_json(text: &[u8], table: &mut [u8]) -> JsonAnswer
-    ensures { λ r. ⌜ Answered (now (text .entry)) (now (table .entry)) r (now (table .exit)) ⌝ }
+    ensures { λ r. ⌜ JsonAnswered (now (text .entry)) (now (table .entry)) r (now (table .exit)) ⌝ }
 {
     match json_fault(text) {
         Fault::Nothing => read_members(text, table),

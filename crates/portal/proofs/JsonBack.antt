@@ -17,8 +17,8 @@ use Rattle.records.specs.Wishes.{wishes}
 use Rattle.judging.specs.Requests.{columns, firstFault}
 use Rattle.judging.specs.Meaning.{isAllowed}
 use Rattle.comparing.specs.Outcomes.{IsTable}
-use Rattle.policy.specs.Answers.{documentOf, tableFor, Answered}
-use Rattle.policy.specs.Answers.Answered.{no-text, wrong-member, wrong-record, too-long, no-room, written}
+use Rattle.policy.specs.Answers.{documentOf, tableFor, JsonAnswered}
+use Rattle.policy.specs.Answers.JsonAnswered.{no-text, wrong-member, wrong-record, too-long, no-room, written}
 use Rattle.policy.specs.declared.reader.JsonAnswer.{JsonAnswer}
 use Rattle.policy.specs.declared.reader.JsonAnswer.the-variants as R
 use Rattle.policy.proofs.Numbers.{member-number, record-number}
@@ -34,7 +34,7 @@ abbrev Fits : List ℕ → JsonAnswer → List ℕ → Type 0
 Fits before (R.Written n) after = n ≤ 16384
 Fits before (R.Refused k p) after = (1 ≤ k) × (k ≤ 255) × (after ≡ before)
 
-fits : {json before : List ℕ} {a : JsonAnswer} {after : List ℕ} → Answered json before a after → Fits before a after
+fits : {json before : List ℕ} {a : JsonAnswer} {after : List ℕ} → JsonAnswered json before a after → Fits before a after
 fits (no-text f) = (omega arith, omega arith, refl)
 fits {json} (wrong-member {k} {p} x l) =
     let n = member-number (documentOf x) (length json) k p l in
@@ -56,13 +56,13 @@ given-low place = go (ltb place 0xFFFFFFFFFFFFFF) refl
 pub json-read-back : (json before : List ℕ) (r : ℕ) (after : List ℕ) → ReadsJson json before r after → JsonSays json before r after
 json-read-back json before r after (R.Written n, answered, code) =
     let few = fits answered in
-    JsonSays.written (omega (arith, few, code)) (subst (λ (i : ℕ). Answered json before (R.Written i) after) (sym code) answered)
+    JsonSays.written (omega (arith, few, code)) (subst (λ (i : ℕ). JsonAnswered json before (R.Written i) after) (sym code) answered)
 json-read-back json before r after (R.Refused k p, answered, code) =
     let f = fits answered in
     let low = given-low p in
     let number : k ≡ r / 2 ^ 56 = omega (arith, code, low) in
     let place : r % 2 ^ 56 ≡ givenPlace p = omega (arith, code, low) in
-    JsonSays.refused p (omega (arith, code, f .0)) (subst (λ (i : ℕ). Answered json before (R.Refused i p) after) number answered) place (f .2)
+    JsonSays.refused p (omega (arith, code, f .0)) (subst (λ (i : ℕ). JsonAnswered json before (R.Refused i p) after) number answered) place (f .2)
 
 pub one-answer-json : (json before : List ℕ) (r s : ℕ) (after after' : List ℕ)
     → ReadsJson json before r after → ReadsJson json before s after' → (r ≡ s) × (after ≡ after')
@@ -73,10 +73,10 @@ one-answer-json json before r s after after' (a, x, e) (b, y, f) =
     (e ∙ ap jsonCode (first .0 ∙ sym (second .0)) ∙ sym f, first .1 ∙ sym (second .1))
 
 -- the answer where r bytes are written
-written-back : (json before : List ℕ) (r : ℕ) (after : List ℕ) → ReadsJson json before r after → r < 2 ^ 56 → Answered json before (R.Written r) after
+written-back : (json before : List ℕ) (r : ℕ) (after : List ℕ) → ReadsJson json before r after → r < 2 ^ 56 → JsonAnswered json before (R.Written r) after
 written-back json before r after x low = by (json-read-back json before r after x)
   where
-    by : JsonSays json before r after → Answered json before (R.Written r) after
+    by : JsonSays json before r after → JsonAnswered json before (R.Written r) after
     by (JsonSays.written h a) = a
     by (JsonSays.refused p h a e f) = absurd (omega (arith, h, low))
 

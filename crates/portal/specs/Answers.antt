@@ -5,7 +5,7 @@ use mathlib.Core.List.{List}
 use Rattle.comparing.specs.Compared.{Compared, Shown}
 use Rattle.comparing.specs.declared.answers.Counting.{Counting}
 use Rattle.comparing.specs.declared.answers.Showing.{Showing}
-use Rattle.policy.specs.Answers.{Answered}
+use Rattle.policy.specs.Answers.{JsonAnswered}
 use Rattle.policy.specs.declared.reader.JsonAnswer.{JsonAnswer}
 use Rattle.portal.specs.Codes.{countingCode, showingCode, jsonCode}
 
@@ -20,4 +20,4 @@ Shows first second k before r after =
 
 -- the answer for a text, coded, and what the buffer for the table then holds
 abbrev pub ReadsJson : List ℕ → List ℕ → ℕ → List ℕ → Type 0
-ReadsJson json before r after = (answer : JsonAnswer) × Answered json before answer after × (r ≡ jsonCode answer)
+ReadsJson json before r after = (answer : JsonAnswer) × JsonAnswered json before answer after × (r ≡ jsonCode answer)

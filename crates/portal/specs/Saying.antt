@@ -10,7 +10,7 @@ use Rattle.comparing.specs.Compared.{Compared, Shown}
 use Rattle.comparing.specs.declared.answers.Counting.the-variants as C
 use Rattle.comparing.specs.declared.answers.Shape.{Shape}
 use Rattle.comparing.specs.declared.answers.Showing.the-variants as S
-use Rattle.policy.specs.Answers.{Answered}
+use Rattle.policy.specs.Answers.{JsonAnswered}
 use Rattle.policy.specs.declared.reader.JsonAnswer.the-variants as R
 use Rattle.portal.specs.Codes.{presentOf, placeIn, numberIn, tableIn, givenPlace}
 
@@ -45,7 +45,7 @@ pub data GapSays (first second : List ℕ) (k : ℕ) (before : List ℕ) (r : �
 -- what r says of a JSON text, and what the buffer for its table holds before and after
 pub data JsonSays (json before : List ℕ) (r : ℕ) (after : List ℕ) : Type 0 where
   -- below 2 ^ 56: r bytes of the buffer are the table
-  written : r < 2 ^ 56 → Answered json before (R.Written r) after → JsonSays json before r after
+  written : r < 2 ^ 56 → JsonAnswered json before (R.Written r) after → JsonSays json before r after
   -- from 2 ^ 56 on: the text is refused with this number, at this place, as far as there is room for it, and the buffer is as it came
-  refused : (place : ℕ) → 2 ^ 56 ≤ r → Answered json before (R.Refused (r / 2 ^ 56) place) after → r % 2 ^ 56 ≡ givenPlace place
+  refused : (place : ℕ) → 2 ^ 56 ≤ r → JsonAnswered json before (R.Refused (r / 2 ^ 56) place) after → r % 2 ^ 56 ≡ givenPlace place
       → after ≡ before → JsonSays json before r after

@@ -18,8 +18,8 @@ use Rattle.stored.specs.Entries.{Bytes}
 use Rattle.stored.specs.Tables.{Statement, rowsOf}
 use Rattle.stored.specs.declared.reader.ReadAnswer.the-variants as R
 use Rattle.records.specs.Documents.{statementsOf}
-use Rattle.policy.specs.Answers.{documentOf, tableFor, Answered}
-use Rattle.policy.specs.Answers.Answered.{no-text, wrong-member, wrong-record, too-long, no-room, written}
+use Rattle.policy.specs.Answers.{documentOf, tableFor, JsonAnswered}
+use Rattle.policy.specs.Answers.JsonAnswered.{no-text, wrong-member, wrong-record, too-long, no-room, written}
 use Rattle.policy.specs.declared.reader.JsonAnswer.{JsonAnswer}
 use Rattle.policy.specs.declared.reader.JsonAnswer.the-variants as A
 use Rattle.policy.proofs.Promises.{json-means}
@@ -38,24 +38,24 @@ none-found v e = go (faults v) (sym (first-fault v) ∙ e)
     go (f ∷ fs) h = never (cc)
 
 made : (t table buffer : List ℕ) → Makes t table → length table ≤ length buffer
-    → Answered t buffer (A.Written (length table)) (table ++ drop (length table) buffer)
+    → JsonAnswered t buffer (A.Written (length table)) (table ++ drop (length table) buffer)
 made t table buffer m room =
-    subst (λ (s : List ℕ). length s ≤ 16384 → length s ≤ length buffer → Answered t buffer (A.Written (length s)) (s ++ drop (length s) buffer)) (m .is-table)
+    subst (λ (s : List ℕ). length s ≤ 16384 → length s ≤ length buffer → JsonAnswered t buffer (A.Written (length s)) (s ++ drop (length s) buffer)) (m .is-table)
     (λ a b. written (m .text) (record { members = none-found (documentOf (m .text)) (m .sound-members); records = m .sound-records }) a b)
     (m .short) room
 
 pub every-table : (table : List ℕ) (n : ℕ) → Bytes table → reading table ≡ R.Accepted n
     → ((s : Statement) → In s (rowsOf table) → Grouped s)
     → (t : List ℕ)
-    × ((buffer : List ℕ) → length table ≤ length buffer → Answered t buffer (A.Written (length table)) (table ++ drop (length table) buffer))
+    × ((buffer : List ℕ) → length table ≤ length buffer → JsonAnswered t buffer (A.Written (length table)) (table ++ drop (length table) buffer))
 every-table table n b e g =
     (printed (rowsOf table), λ buffer room. made (printed (rowsOf table)) table buffer (makes table n b e g) room)
 
-pub no-other : (t buffer left : List ℕ) (n : ℕ) → Answered t buffer (A.Written n) left
+pub no-other : (t buffer left : List ℕ) (n : ℕ) → JsonAnswered t buffer (A.Written n) left
     → (s : Statement) → In s (rowsOf (take n left)) → Grouped s
 no-other t buffer left n y s i = by y refl
   where
-    by : {r : JsonAnswer} {rest : List ℕ} → Answered t buffer r rest → r ≡ A.Written n → Grouped s
+    by : {r : JsonAnswer} {rest : List ℕ} → JsonAnswered t buffer r rest → r ≡ A.Written n → Grouped s
     by (no-text f) e = absurd (let z : _≡_ {A = ℕ} 0 1 = cc in omega arith)
     by (wrong-member w l) e = absurd (let z : _≡_ {A = ℕ} 0 1 = cc in omega arith)
     by (wrong-record w f g) e = absurd (let z : _≡_ {A = ℕ} 0 1 = cc in omega arith)

@@ -9,7 +9,7 @@ use Rattle.stored.specs.Reading.{reading}
 use Rattle.stored.specs.Entries.{Bytes}
 use Rattle.stored.specs.Tables.{Statement, rowsOf}
 use Rattle.stored.specs.declared.reader.ReadAnswer.the-variants as R
-use Rattle.policy.specs.Answers.{Answered}
+use Rattle.policy.specs.Answers.{JsonAnswered}
 use Rattle.policy.specs.declared.reader.JsonAnswer.the-variants as A
 use Rattle.printed.specs.Grouped.{Grouped}
 use Rattle.printed.proofs.Answering
@@ -21,11 +21,11 @@ pub json-every-table : (table : List ℕ) (n : ℕ) → Bytes table → reading 
     → ((s : Statement) → In s (rowsOf table) → Grouped s)
     → (t : List ℕ)
     × ((buffer : List ℕ) → length table ≤ length buffer
-      → Answered t buffer (A.Written (length table)) (table ++ drop (length table) buffer))
+      → JsonAnswered t buffer (A.Written (length table)) (table ++ drop (length table) buffer))
 json-every-table = Answering.every-table
 
 -- "Other tables no text makes": in each statement of a table that is written for a text, the conditions of one operator stand together and
 -- no operator has a key twice.
-pub json-no-other : (t buffer left : List ℕ) (n : ℕ) → Answered t buffer (A.Written n) left
+pub json-no-other : (t buffer left : List ℕ) (n : ℕ) → JsonAnswered t buffer (A.Written n) left
     → (s : Statement) → In s (rowsOf (take n left)) → Grouped s
 json-no-other = Answering.no-other
