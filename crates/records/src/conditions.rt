@@ -73,8 +73,16 @@ fn on_text(spot: Spot, at: usize) -> Turned
         Spot::Keys(operator) => Turned::Gone,
         Spot::Key(operator, key) => Turned::Waits(operator, key),
         Spot::Value(operator) => Turned::Says(string_kind(operator), at, Spot::Keys(operator)),
-        Spot::EmptyList(operator, place) => Turned::Says(string_kind(operator), at, Spot::FilledList(operator)),
-        Spot::FilledList(operator) => Turned::Says(string_kind(operator), at, Spot::FilledList(operator)),
+        Spot::EmptyList(operator, place) => Turned::Says(
+            string_kind(operator),
+            at,
+            Spot::FilledList(operator),
+        ),
+        Spot::FilledList(operator) => Turned::Says(
+            string_kind(operator),
+            at,
+            Spot::FilledList(operator),
+        ),
     }
 }
 
@@ -171,7 +179,12 @@ pub(crate) fn next_condition(text: &[u8], from: Mark, start: Spot) -> Said
                         spot = further;
                     }
                     Turned::Waits(operator, key) => {
-                        return Said::Wish(Wish::Condition(operator, key), at, here, Spot::Value(operator));
+                        return Said::Wish(
+                            Wish::Condition(operator, key),
+                            at,
+                            here,
+                            Spot::Value(operator),
+                        );
                     }
                     Turned::Says(wish, place, further) => {
                         return Said::Wish(wish, place, behind, further);

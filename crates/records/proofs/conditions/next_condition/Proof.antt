@@ -19,7 +19,6 @@ abbrev Inv-loop : tie.InvT-loop
 Inv-loop text here₀ spot₀ here spot =
     (behind : List Wish) → conditionsFrom behind (tokensAt text here₀) (spotOf text spot₀) ≡ conditionsFrom behind (tokensAt text here) (spotOf text spot)
 
-
 abbrev μ-loop : tie.MeasureT-loop
 μ-loop text here₀ spot₀ here spot = length text - here .at
 
