@@ -87,10 +87,12 @@ numbers-small (c ∷ bs) k a n h b =
     dots zero a n h b go = tt
     dots (suc k) a Number.blank h b go = tt
     dots (suc k) a (Number.value m) h b go = go k (a * 256 + m) Number.blank (more k a m h b) tt
+
     slash : (k a : ℕ) (n : Number) → Room k a → Byte n → Small (slashed (λ m. lengthOf m bs Number.blank) k a n)
     slash zero a Number.blank h b = tt
     slash zero a (Number.value m) h b = length-small (a * 256 + m) (omega arith) bs Number.blank
     slash (suc k) a n h b = tt
+
     by : (x : Bool) (l : Longer) → Next 255 l → (y z : Bool) (k a : ℕ) (n : Number) → Room k a → Byte n
         → ((k a : ℕ) (n : Number) → Room k a → Byte n → Small (numbersOf bs k a n))
         → Small (pick x (afterDigit (numbersOf bs k a) l) (pick y (dotted (numbersOf bs) k a n) (pick z (slashed (λ m. lengthOf m bs Number.blank) k a n) Read.none)))

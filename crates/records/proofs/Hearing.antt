@@ -61,7 +61,8 @@ module _ (t : List ℕ) (r : List Wish) (ts : List Token) (at : ℕ) where
   abbrev pub afterTurned : List Token → Turned → List Wish
   afterTurned us (Tu.On p) = conditionsFrom r ts (spotOf t p)
   afterTurned us (Tu.Waits o k) = made (length t - at) (condition o k) ∷ conditionsFrom r us (Streams.Spot.value o)
-  afterTurned us (Tu.Says w p s) = wishOf t w p ∷ conditionsFrom r ts (spotOf t s)
+  afterTurned us (Tu.Text o s) = wishOf t (stringKind (rowOf o .sort)) at ∷ conditionsFrom r ts (spotOf t s)
+  afterTurned us (Tu.Empty p s) = wishOf t W.Empty p ∷ conditionsFrom r ts (spotOf t s)
   afterTurned us Tu.Gone = r
 
   string-said : (s : Sort) → stringWish s (length t - at) (contentOf (drop (at + 1) t)) ≡ wishOf t (stringKind s) at

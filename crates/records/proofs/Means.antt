@@ -65,8 +65,8 @@ write-all (unread n bs ∷ ws) s at buffer h a b = never _ n h
 write-all (made n e ∷ ws) s at buffer h a b =
     by (admit s e) refl h
     (λ next e1 e2.
-      write-all ws next (at + length (recordOf (itemOf e) (bytesOf e))) (sets buffer at (recordOf (itemOf e) (bytesOf e))) e2
-      (omega arith) (rw length-sets (omega arith)))
+    write-all ws next (at + length (recordOf (itemOf e) (bytesOf e))) (sets buffer at (recordOf (itemOf e) (bytesOf e))) e2
+    (omega arith) (rw length-sets (omega arith)))
   where
     by : (x : Turn) → admit s e ≡ x → afterWish (running ws) n x ≡ fine
         → ((next : State) → admit s e ≡ T.Next next → running ws next ≡ fine
@@ -78,10 +78,11 @@ write-all (made n e ∷ ws) s at buffer h a b =
         record {
           last = r .last;
           left = r .left;
-          writes =
-              (record { state = next; at = at + length (recordOf (itemOf e) (bytesOf e)) },
-              one-more e s next at buffer f (omega arith) (omega arith),
-              r .writes);
+          writes = (
+            record { state = next; at = at + length (recordOf (itemOf e) (bytesOf e)) },
+            one-more e s next at buffer f (omega arith) (omega arith),
+            r .writes,
+          );
           size = r .size ∙ (omega arith);
         }
 
@@ -108,9 +109,9 @@ statements-behind (x ∷ xs) =
     let r = statements-behind xs in (
       statement (x .effect) ∷ elementsFor (x .elements) (conditionsFor (x .conditions) (r .0)),
       ap (λ (ys : List Entry). statement (x .effect) ∷ ys)
-      (ap (λ (ys : List Entry). elementsFor (x .elements) (conditionsFor (x .conditions) ys)) (r .1)
-      ∙ ap (elementsFor (x .elements)) (conditions-behind (x .conditions) (r .0) (end ∷ []))
-      ∙ elements-behind (x .elements) (conditionsFor (x .conditions) (r .0)) (end ∷ [])),
+          (ap (λ (ys : List Entry). elementsFor (x .elements) (conditionsFor (x .conditions) ys)) (r .1)
+          ∙ ap (elementsFor (x .elements)) (conditions-behind (x .conditions) (r .0) (end ∷ []))
+          ∙ elements-behind (x .elements) (conditionsFor (x .conditions) (r .0)) (end ∷ [])),
     )
 
 -- the table that is written
@@ -131,9 +132,9 @@ json-means v buffer h a b =
     let front = statements-behind (statementsOf v) in
     let es = start (length (statementsOf v)) ∷ front .0 in
     let same : entries (wishes v) ≡ es ++ (end ∷ []) =
-        wished v ∙ ap (λ (xs : List Entry). start (length (statementsOf v)) ∷ xs) (front .1) in
+    wished v ∙ ap (λ (xs : List Entry). start (length (statementsOf v)) ∷ xs) (front .1) in
     let over : isEnded (w .last .state .phase) ≡ true =
-        end-ends es buffer (w .last) (w .left) (subst (λ (xs : List Entry). Writes freshWriter buffer xs (w .last) (w .left)) same (w .writes)) in
+    end-ends es buffer (w .last) (w .left) (subst (λ (xs : List Entry). Writes freshWriter buffer xs (w .last) (w .left)) same (w .writes)) in
     let back = read-write (entries (wishes v)) buffer (w .last) (w .left) (w .writes) (all-fit v) over in
     record {
       last = w .last;

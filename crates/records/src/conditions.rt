@@ -37,8 +37,10 @@ pub enum Turned {
     On(Spot),
     // A condition, wished for before its value is read.
     Waits(Operator, Key),
-    // A wish, its place, and the spot behind it.
-    Says(Wish, usize, Spot),
+    // A string under an operator, and the spot behind it.
+    Text(Operator, Spot),
+    // The place of an empty list, and the spot behind it.
+    Empty(usize, Spot),
     Gone,
 }
 
@@ -63,8 +65,8 @@ fn on_name(spot: Spot, text: &[u8], from: usize) -> Turned
     }
 }
 
-fn on_text(spot: Spot, at: usize) -> Turned
-    ensures { λ r. ⌜ r ≡ textTurn spot at ⌝ }
+fn on_text(spot: Spot) -> Turned
+    ensures { λ r. ⌜ r ≡ textTurn spot ⌝ }
 {
     match spot {
         Spot::Before => Turned::Gone,
@@ -72,9 +74,9 @@ fn on_text(spot: Spot, at: usize) -> Turned
         Spot::Operator(operator) => Turned::Gone,
         Spot::Keys(operator) => Turned::Gone,
         Spot::Key(operator, key) => Turned::Waits(operator, key),
-        Spot::Value(operator) => Turned::Says(string_kind(operator), at, Spot::Keys(operator)),
-        Spot::EmptyList(operator, place) => Turned::Says(string_kind(operator), at, Spot::FilledList(operator)),
-        Spot::FilledList(operator) => Turned::Says(string_kind(operator), at, Spot::FilledList(operator)),
+        Spot::Value(operator) => Turned::Text(operator, Spot::Keys(operator)),
+        Spot::EmptyList(operator, place) => Turned::Text(operator, Spot::FilledList(operator)),
+        Spot::FilledList(operator) => Turned::Text(operator, Spot::FilledList(operator)),
     }
 }
 
@@ -103,7 +105,7 @@ fn on_list_end(spot: Spot) -> Turned
         Spot::Keys(operator) => Turned::Gone,
         Spot::Key(operator, key) => Turned::Gone,
         Spot::Value(operator) => Turned::Gone,
-        Spot::EmptyList(operator, place) => Turned::Says(Wish::Empty, place, Spot::Keys(operator)),
+        Spot::EmptyList(operator, place) => Turned::Empty(place, Spot::Keys(operator)),
         Spot::FilledList(operator) => Turned::On(Spot::Keys(operator)),
     }
 }
@@ -144,7 +146,7 @@ fn spot_turn(spot: Spot, event: Event, text: &[u8], at: usize, from: usize) -> T
     match event {
         Event::Nothing => Turned::On(spot),
         Event::Name => on_name(spot, text, from),
-        Event::Text => on_text(spot, at),
+        Event::Text => on_text(spot),
         Event::Other => Turned::Gone,
         Event::OpenList => on_list(spot, at),
         Event::CloseList => on_list_end(spot),
@@ -171,10 +173,19 @@ pub(crate) fn next_condition(text: &[u8], from: Mark, start: Spot) -> Said
                         spot = further;
                     }
                     Turned::Waits(operator, key) => {
-                        return Said::Wish(Wish::Condition(operator, key), at, here, Spot::Value(operator));
+                        return Said::Wish(
+                            Wish::Condition(operator, key),
+                            at,
+                            here,
+                            Spot::Value(operator),
+                        );
                     }
-                    Turned::Says(wish, place, further) => {
-                        return Said::Wish(wish, place, behind, further);
+                    Turned::Text(operator, further) => {
+                        let wish = string_kind(operator);
+                        return Said::Wish(wish, at, behind, further);
+                    }
+                    Turned::Empty(place, further) => {
+                        return Said::Wish(Wish::Empty, place, behind, further);
                     }
                     Turned::Gone => {
                         return Said::None;

@@ -41,13 +41,27 @@ pub fn first() -> Cursor
     ensures { λ r. ⌜ r ≡ firstCursor ⌝ }
 {
     let here = first_mark();
-    Cursor { stage: Stage::Begin, here, row: here, listed: false }
+    Cursor {
+        stage: Stage::Begin,
+        here,
+        row: here,
+        listed: false,
+    }
 }
 
 fn end(text: &[u8], row: Mark) -> Next
     ensures { λ r. ⌜ last ≡ nextWishes (now (text .entry)) r ⌝ }
 {
-    Next::Wish(Wish::End, text.len(), Cursor { stage: Stage::Over, here: row, row, listed: false })
+    Next::Wish(
+        Wish::End,
+        text.len(),
+        Cursor {
+            stage: Stage::Over,
+            here: row,
+            row,
+            listed: false,
+        },
+    )
 }
 
 // A statement begins: its effect.
@@ -57,7 +71,16 @@ fn statement(text: &[u8], row: Mark, listed: bool) -> Next
     let effect = effect_of(text, row);
     let wish = effect.wish;
     let place = effect.place;
-    Next::Wish(wish, place, Cursor { stage: Stage::Parts(Part::Principal), here: row, row, listed })
+    Next::Wish(
+        wish,
+        place,
+        Cursor {
+            stage: Stage::Parts(Part::Principal),
+            here: row,
+            row,
+            listed,
+        },
+    )
 }
 
 // The next statement, or the end.
@@ -84,7 +107,16 @@ fn conditions_at(text: &[u8], here: Mark, spot: Spot, row: Mark, listed: bool) -
     ensures { λ r. ⌜ conditionsFrom (behindRow (now (text .entry)) row listed) (tokensAt (now (text .entry)) here) (spotOf (now (text .entry)) spot) ≡ nextWishes (now (text .entry)) r ⌝ }
 {
     match next_condition(text, here, spot) {
-        Said::Wish(wish, place, mark, further) => Next::Wish(wish, place, Cursor { stage: Stage::Conditions(further), here: mark, row, listed }),
+        Said::Wish(wish, place, mark, further) => Next::Wish(
+            wish,
+            place,
+            Cursor {
+                stage: Stage::Conditions(further),
+                here: mark,
+                row,
+                listed,
+            },
+        ),
         Said::None => after_row(text, row, listed),
     }
 }
@@ -104,7 +136,16 @@ fn column(text: &[u8], kind: u8, value: Mark, row: Mark, listed: bool, part: Par
 {
     let column = column_at(kind);
     let place = place_from(text, value);
-    Next::Wish(Wish::Column(column), place, Cursor { stage: Stage::Values(part, Hold::Outside), here: value, row, listed })
+    Next::Wish(
+        Wish::Column(column),
+        place,
+        Cursor {
+            stage: Stage::Values(part, Hold::Outside),
+            here: value,
+            row,
+            listed,
+        },
+    )
 }
 
 fn resource(text: &[u8], row: Mark, listed: bool) -> Next
@@ -149,9 +190,36 @@ fn values(text: &[u8], here: Mark, hold: Hold, row: Mark, listed: bool, part: Pa
     ensures { λ r. ⌜ valuesFrom S.Text (partLeft (now (text .entry)) row listed part) (tokensAt (now (text .entry)) here) (holdOf (now (text .entry)) hold) ≡ nextWishes (now (text .entry)) r ⌝ }
 {
     match next_string(text, here, hold) {
-        Strings::Listed(place, mark) => Next::Wish(Wish::Value, place, Cursor { stage: Stage::Values(part, Hold::Filled), here: mark, row, listed }),
-        Strings::Alone(place) => Next::Wish(Wish::Value, place, Cursor { stage: Stage::Parts(part), here, row, listed }),
-        Strings::Empty(place) => Next::Wish(Wish::Empty, place, Cursor { stage: Stage::Parts(part), here, row, listed }),
+        Strings::Listed(place, mark) => Next::Wish(
+            Wish::Value,
+            place,
+            Cursor {
+                stage: Stage::Values(part, Hold::Filled),
+                here: mark,
+                row,
+                listed,
+            },
+        ),
+        Strings::Alone(place) => Next::Wish(
+            Wish::Value,
+            place,
+            Cursor {
+                stage: Stage::Parts(part),
+                here,
+                row,
+                listed,
+            },
+        ),
+        Strings::Empty(place) => Next::Wish(
+            Wish::Empty,
+            place,
+            Cursor {
+                stage: Stage::Parts(part),
+                here,
+                row,
+                listed,
+            },
+        ),
         Strings::None => parts(text, row, listed, part),
     }
 }
@@ -161,11 +229,29 @@ fn start(text: &[u8], members: Mark) -> Next
     ensures { λ r. ⌜ statementFrom (seek W.Top 2 (tokensAt (now (text .entry)) members) 0) ≡ nextWishes (now (text .entry)) r ⌝ }
 {
     match seek_member(text, members, Table::Top, 2) {
-        Sought::None => Next::Wish(Wish::Start(0), text.len(), Cursor { stage: Stage::End, here: members, row: members, listed: false }),
+        Sought::None => Next::Wish(
+            Wish::Start(0),
+            text.len(),
+            Cursor {
+                stage: Stage::End,
+                here: members,
+                row: members,
+                listed: false,
+            },
+        ),
         Sought::Found(kind, value) => {
             let count = count_rows(text, value);
             let place = place_from(text, value);
-            Next::Wish(Wish::Start(count), place, Cursor { stage: Stage::Rows, here: value, row: value, listed: false })
+            Next::Wish(
+                Wish::Start(count),
+                place,
+                Cursor {
+                    stage: Stage::Rows,
+                    here: value,
+                    row: value,
+                    listed: false,
+                },
+            )
         }
     }
 }

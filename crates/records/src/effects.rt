@@ -56,7 +56,10 @@ fn effect_on(text: &[u8], value: Mark) -> Placed
     ensures { λ r. ⌜ effectOn (tokensAt (now (text .entry)) value) ≡ placedWish (now (text .entry)) r ⌝ }
 {
     match next_token(text, value) {
-        Met::None => Placed { wish: Wish::Strange, place: text.len() },
+        Met::None => Placed {
+            wish: Wish::Strange,
+            place: text.len(),
+        },
         Met::Token(event, at, behind) => {
             let wish = effect_by(event, text, at + 1);
             Placed { wish, place: at }
@@ -69,7 +72,10 @@ pub(crate) fn effect_of(text: &[u8], row: Mark) -> Placed
     ensures { λ r. ⌜ effectFrom (seek W.Row 2 (tokensAt (now (text .entry)) row) 0) ≡ placedWish (now (text .entry)) r ⌝ }
 {
     match seek_member(text, row, Table::Row, 2) {
-        Sought::None => Placed { wish: Wish::Strange, place: text.len() },
+        Sought::None => Placed {
+            wish: Wish::Strange,
+            place: text.len(),
+        },
         Sought::Found(kind, value) => effect_on(text, value),
     }
 }

@@ -11,7 +11,6 @@ use Rattle.json.specs.machinery.Marks.{startMark, tokensAt}
 use Rattle.json.specs.declared.tokens.Mark.{Mark}
 use Rattle.json.specs.declared.events.Event.{Event}
 use Rattle.json.specs.declared.events.Event.the-variants as E
-use Rattle.stored.specs.Operators.{rowOf}
 use Rattle.stored.specs.Entries.Entry.{start, statement, column, condition, value, end}
 use Rattle.stored.specs.declared.items.Effect.the-variants as Ef
 use Rattle.stored.specs.declared.items.Sort.{Sort}
@@ -134,15 +133,15 @@ nameTurn (Sp.Value o) x = Tu.Gone
 nameTurn (Sp.EmptyList o p) x = Tu.Gone
 nameTurn (Sp.FilledList o) x = Tu.Gone
 
-abbrev pub textTurn : Spot → ℕ → Turned
-textTurn Sp.Before at = Tu.Gone
-textTurn Sp.Operators at = Tu.Gone
-textTurn (Sp.Operator o) at = Tu.Gone
-textTurn (Sp.Keys o) at = Tu.Gone
-textTurn (Sp.Key o k) at = Tu.Waits o k
-textTurn (Sp.Value o) at = Tu.Says (stringKind (rowOf o .sort)) at (Sp.Keys o)
-textTurn (Sp.EmptyList o p) at = Tu.Says (stringKind (rowOf o .sort)) at (Sp.FilledList o)
-textTurn (Sp.FilledList o) at = Tu.Says (stringKind (rowOf o .sort)) at (Sp.FilledList o)
+abbrev pub textTurn : Spot → Turned
+textTurn Sp.Before = Tu.Gone
+textTurn Sp.Operators = Tu.Gone
+textTurn (Sp.Operator o) = Tu.Gone
+textTurn (Sp.Keys o) = Tu.Gone
+textTurn (Sp.Key o k) = Tu.Waits o k
+textTurn (Sp.Value o) = Tu.Text o (Sp.Keys o)
+textTurn (Sp.EmptyList o p) = Tu.Text o (Sp.FilledList o)
+textTurn (Sp.FilledList o) = Tu.Text o (Sp.FilledList o)
 
 abbrev pub listTurn : Spot → ℕ → Turned
 listTurn Sp.Before at = Tu.Gone
@@ -161,7 +160,7 @@ listEndTurn (Sp.Operator o) = Tu.Gone
 listEndTurn (Sp.Keys o) = Tu.Gone
 listEndTurn (Sp.Key o k) = Tu.Gone
 listEndTurn (Sp.Value o) = Tu.Gone
-listEndTurn (Sp.EmptyList o p) = Tu.Says W.Empty p (Sp.Keys o)
+listEndTurn (Sp.EmptyList o p) = Tu.Empty p (Sp.Keys o)
 listEndTurn (Sp.FilledList o) = Tu.On (Sp.Keys o)
 
 abbrev pub objectTurn : Spot → Turned
@@ -187,7 +186,7 @@ objectEndTurn (Sp.FilledList o) = Tu.Gone
 abbrev pub spotTurn : Spot → Event → ℕ → List ℕ → Turned
 spotTurn p E.Nothing at x = Tu.On p
 spotTurn p E.Name at x = nameTurn p x
-spotTurn p E.Text at x = textTurn p at
+spotTurn p E.Text at x = textTurn p
 spotTurn p E.Other at x = Tu.Gone
 spotTurn p E.OpenList at x = listTurn p at
 spotTurn p E.CloseList at x = listEndTurn p

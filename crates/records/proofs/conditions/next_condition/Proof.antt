@@ -5,11 +5,12 @@ use native.Mathlib.Omega.{arith}
 use lib.ListN.{length}
 use Rattle.json.specs.machinery.Marks.{tokensAt}
 use Rattle.records.proofs.Meeting.{met-none, met-token, met-ahead}
-use mathlib.Core.List.{List}
+use mathlib.Core.List.{List, _∷_}
 use Rattle.json.specs.machinery.Tokens.{Token}
 use Rattle.records.specs.Wishes.{Wish}
 use Rattle.records.specs.machinery.Streams.{conditionsFrom}
-use Rattle.records.specs.machinery.Cursors.{spotOf}
+use Rattle.records.specs.machinery.Cursors.{wishOf, spotOf}
+use Rattle.records.specs.declared.wishes.Wish as Code
 use Rattle.records.proofs.Hearing.{turns}
 use borrow.Author.Needs.{needs}
 use Rattle.records.proofs.conditions.next_condition.Statement.{statement}
@@ -18,7 +19,6 @@ use Rattle.records.proofs.conditions.next_condition.Tie as tie
 abbrev Inv-loop : tie.InvT-loop
 Inv-loop text here₀ spot₀ here spot =
     (behind : List Wish) → conditionsFrom behind (tokensAt text here₀) (spotOf text spot₀) ≡ conditionsFrom behind (tokensAt text here) (spotOf text spot)
-
 
 abbrev μ-loop : tie.MeasureT-loop
 μ-loop text here₀ spot₀ here spot = length text - here .at
@@ -90,24 +90,41 @@ returns-2 c =
     let turn = sym (c .before .before .before .spot-turn .ensures) ∙ c .before .operator .given .1 in
     λ behind. l .inv behind ∙ turns text behind (tokensAt text (c .before .before .before .before .before .event .given .0 .1 .1 .0)) (c .before .before .before .before .before .event .given .0 .1 .0) (tokensAt text (l .here)) (c .before .before .before .before .before .event .given .0 .0) (l .spot) met turn
 
-enum-known-wish : tie.Need-enum-known-wish Inv-loop μ-loop
-enum-known-wish c = search needs
+enum-known-operator-2 : tie.Need-enum-known-operator-2 Inv-loop μ-loop
+enum-known-operator-2 c = search needs
+
+string-kind-requires : tie.Need-string-kind-requires Inv-loop μ-loop
+string-kind-requires c κs = search needs
 
 returns-3 : tie.Need-returns-3 Inv-loop μ-loop
 returns-3 c =
+    let l = c .before .before .before .before .before .before .before .before .before .loop in
+    let a = c .before .before .before .before .before .before .before .before .before .before .before .args in
+    let text = a .text .now in
+    let q = c .before .before .before .before .before .before .event .given .1 in
+    let met = met-token text (l .here) (c .before .before .before .before .before .before .before .before .next-token .ensures .0) q in
+    let turn = sym (c .before .before .before .before .spot-turn .ensures) ∙ c .before .before .operator2 .given .1 in
+    λ behind. l .inv behind ∙ turns text behind (tokensAt text (c .before .before .before .before .before .before .event .given .0 .1 .1 .0)) (c .before .before .before .before .before .before .event .given .0 .1 .0) (tokensAt text (l .here)) (c .before .before .before .before .before .before .event .given .0 .0) (l .spot) met turn
+    ∙ ap (λ (w : Code.Wish). wishOf text w (c .before .before .before .before .before .before .event .given .0 .1 .0) ∷ conditionsFrom behind (tokensAt text (c .before .before .before .before .before .before .event .given .0 .1 .1 .0)) (spotOf text (c .before .before .operator2 .given .0 .1 .0))) (sym (c .string-kind .ensures))
+
+enum-known-place : tie.Need-enum-known-place Inv-loop μ-loop
+enum-known-place c = search needs
+
+returns-4 : tie.Need-returns-4 Inv-loop μ-loop
+returns-4 c =
     let l = c .before .before .before .before .before .before .before .before .loop in
     let a = c .before .before .before .before .before .before .before .before .before .before .args in
     let text = a .text .now in
     let q = c .before .before .before .before .before .event .given .1 in
     let met = met-token text (l .here) (c .before .before .before .before .before .before .before .next-token .ensures .0) q in
-    let turn = sym (c .before .before .before .spot-turn .ensures) ∙ c .before .wish .given .1 in
+    let turn = sym (c .before .before .before .spot-turn .ensures) ∙ c .before .place .given .1 in
     λ behind. l .inv behind ∙ turns text behind (tokensAt text (c .before .before .before .before .before .event .given .0 .1 .1 .0)) (c .before .before .before .before .before .event .given .0 .1 .0) (tokensAt text (l .here)) (c .before .before .before .before .before .event .given .0 .0) (l .spot) met turn
 
 enum-told-2 : tie.Need-enum-told-2 Inv-loop μ-loop
 enum-told-2 c = search needs
 
-returns-4 : tie.Need-returns-4 Inv-loop μ-loop
-returns-4 c =
+returns-5 : tie.Need-returns-5 Inv-loop μ-loop
+returns-5 c =
     let l = c .before .before .before .before .before .before .before .loop in
     let a = c .before .before .before .before .before .before .before .before .before .args in
     let text = a .text .now in
@@ -134,7 +151,10 @@ next-condition-spec =
     loop-again
     enum-known-operator
     returns-2
-    enum-known-wish
+    enum-known-operator-2
+    string-kind-requires
     returns-3
+    enum-known-place
+    returns-4
     enum-told-2
-    returns-4)
+    returns-5)

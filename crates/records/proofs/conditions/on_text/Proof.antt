@@ -21,20 +21,11 @@ enum-known-spot-3 c = search needs
 enum-known-spot-4 : tie.Need-enum-known-spot-4
 enum-known-spot-4 c = search needs
 
-string-kind-requires : tie.Need-string-kind-requires
-string-kind-requires c κs = search needs
-
 enum-known-spot-5 : tie.Need-enum-known-spot-5
 enum-known-spot-5 c = search needs
 
-string-kind-requires-2 : tie.Need-string-kind-requires-2
-string-kind-requires-2 c κs = search needs
-
 enum-known-spot-6 : tie.Need-enum-known-spot-6
 enum-known-spot-6 c = search needs
-
-string-kind-requires-3 : tie.Need-string-kind-requires-3
-string-kind-requires-3 c κs = search needs
 
 returns : tie.Need-returns
 returns c = simp (c .enum-told .given .1)
@@ -52,13 +43,13 @@ returns-5 : tie.Need-returns-5
 returns-5 c = simp (c .before .spot3 .given .1)
 
 returns-6 : tie.Need-returns-6
-returns-6 c = simp (c .before .before .spot4 .given .1, c .string-kind .ensures)
+returns-6 c = simp (c .before .spot4 .given .1)
 
 returns-7 : tie.Need-returns-7
-returns-7 c = simp (c .before .before .spot5 .given .1, c .string-kind2 .ensures)
+returns-7 c = simp (c .before .spot5 .given .1)
 
 returns-8 : tie.Need-returns-8
-returns-8 c = simp (c .before .before .spot6 .given .1, c .string-kind3 .ensures)
+returns-8 c = simp (c .before .spot6 .given .1)
 
 pub on-text-spec : {M : Type 1} → statement M
 on-text-spec =
@@ -70,11 +61,8 @@ on-text-spec =
     enum-known-spot-2
     enum-known-spot-3
     enum-known-spot-4
-    string-kind-requires
     enum-known-spot-5
-    string-kind-requires-2
     enum-known-spot-6
-    string-kind-requires-3
     returns
     returns-2
     returns-3

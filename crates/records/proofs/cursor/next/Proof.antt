@@ -26,8 +26,8 @@ returns c =
     let text = a .text .now in
     let g = c .before .before .wish .given in (
       c .before .before .before .before .wish-at .ensures
-      ∙ ap (nextWishes text) (g .1)
-      ∙ ap (λ (w : Wish). w ∷ wishesLeft text (g .0 .1 .1 .0)) (clipped text (g .0 .0) (g .0 .1 .0) (c .within .result) (c .within .ensures)),
+          ∙ ap (nextWishes text) (g .1)
+          ∙ ap (λ (w : Wish). w ∷ wishesLeft text (g .0 .1 .1 .0)) (clipped text (g .0 .0) (g .0 .1 .0) (c .within .result) (c .within .ensures)),
       c .within .ensures .inside,
     )
 

@@ -19,7 +19,6 @@ abbrev Inv-loop : tie.InvT-loop
 Inv-loop text here₀ among₀ count₀ here among count =
     (count ≤ here .at) × AtMost (here .at) among × (count + countFrom (tokensAt text here) (amongOf among) ≡ countFrom (tokensAt text here₀) begin)
 
-
 abbrev μ-loop : tie.MeasureT-loop
 μ-loop text here₀ among₀ count₀ here among count = length text - here .at
 
@@ -64,7 +63,7 @@ loop-again c =
     let behind = c .before .before .behind .given .0 .0 in
     let ahead = subst (RowAhead (l .here .at) (length text)) q (c .before .before .before .before .next-row .ensures .1) in
     let seen = count-in (tokensAt text (l .here)) (l .among) ∙ ap countBy (sym (c .before .before .before .before .next-row .ensures .0) ∙ ap (sighted text) q)
-        ∙ ap (λ (b : Bool). pick b (suc (countFrom (tokensAt text behind) (inside 1))) 1) (c .if1 .taken) in
+    ∙ ap (λ (b : Bool). pick b (suc (countFrom (tokensAt text behind) (inside 1))) 1) (c .if1 .taken) in
     (omega (arith, l .inv .0, ahead .0), omega arith, omega (arith, seen, l .inv .2))
 
 add-result : tie.Need-add-result Inv-loop μ-loop
@@ -82,7 +81,7 @@ returns-2 c =
     let behind = c .before .before .behind .given .0 .0 in
     let ahead = subst (RowAhead (l .here .at) (length text)) q (c .before .before .before .before .next-row .ensures .1) in
     let seen = count-in (tokensAt text (l .here)) (l .among) ∙ ap countBy (sym (c .before .before .before .before .next-row .ensures .0) ∙ ap (sighted text) q)
-        ∙ ap (λ (b : Bool). pick b (suc (countFrom (tokensAt text behind) (inside 1))) 1) (c .if1 .left) in
+    ∙ ap (λ (b : Bool). pick b (suc (countFrom (tokensAt text behind) (inside 1))) 1) (c .if1 .left) in
     omega (arith, seen, l .inv .2)
 
 pub count-rows-spec : {M : Type 1} → statement M

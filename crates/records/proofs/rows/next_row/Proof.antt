@@ -17,7 +17,6 @@ abbrev Inv-loop : tie.InvT-loop
 Inv-loop text here₀ among₀ here among =
     (here₀ .at ≤ here .at) × AtMost (here .at) among × (rowIn (tokensAt text here) among ≡ rowIn (tokensAt text here₀) among₀)
 
-
 abbrev μ-loop : tie.MeasureT-loop
 μ-loop text here₀ among₀ here among = length text - here .at
 

@@ -20,7 +20,6 @@ abbrev Inv-loop : tie.InvT-loop
 Inv-loop text here₀ hold₀ here hold =
     (behind : List Wish) → valuesFrom So.Text behind (tokensAt text here₀) (holdOf text hold₀) ≡ valuesFrom So.Text behind (tokensAt text here) (holdOf text hold)
 
-
 abbrev μ-loop : tie.MeasureT-loop
 μ-loop text here₀ hold₀ here hold = length text - here .at
 
