@@ -8,9 +8,9 @@ use policy::reader::read_json;
 use stored::limits::MOST_BYTES;
 
 // Bytes of input that are taken, at most, and room for one more, which shows that there are more.
-const MOST_INPUT: usize = 1048576;
+const MOST_INPUT: usize = 131072;
 
-const INPUT_ROOM: usize = 1048577;
+const INPUT_ROOM: usize = 131073;
 
 fn print_refusal(number: u8, place: usize) {
     let mut line = [0u8; LINE];

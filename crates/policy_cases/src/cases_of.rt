@@ -4,6 +4,7 @@ use crate::printed::fill;
 use crate::printed::print_answer;
 use cases::laying::lay_words;
 use cases::text::behind_next;
+use cases::text::first_bytes;
 use cases::text::part_of;
 use cases::text::place_of;
 use policy::reader::read_json;
@@ -55,7 +56,7 @@ fn lay_case(text: &[u8], room: &mut [u8]) -> usize {
         if byte == b'`' {
             let rest = part_of(text, at + 1, text.len());
             let end = place_of(rest, b'`');
-            to = lay_word(&rest[..end], room, to);
+            to = lay_word(first_bytes(rest, end), room, to);
             at = behind_word(text.len(), at, end);
         } else {
             to = lay_byte(byte, room, to);

@@ -2,7 +2,10 @@
 use cases::print::print_number;
 use cases::print::print_refusal;
 use cases::same::are_bytes;
+use cases::text::first_bytes;
+use cases::text::part_of;
 use policy::reader::JsonAnswer;
+use stored::records::byte_at;
 
 // No record of these cases has it.
 pub const FILLING: u8 = 0xEE;
@@ -18,8 +21,9 @@ pub fn fill(table: &mut [u8]) {
 fn print_bytes(bytes: &[u8]) {
     let mut at: usize = 0;
     while at < bytes.len() {
+        let byte = byte_at(bytes, at);
         io::write_all(1, b" ");
-        io::print_hex(1, bytes[at] as u64, 2);
+        io::print_hex(1, byte as u64, 2);
         at += 1;
     }
 }
@@ -30,11 +34,19 @@ fn print_table(table: &[u8], size: usize) {
         io::write_all(1, b" longer than its buffer");
         return;
     }
-    print_bytes(&table[..size]);
-    if are_bytes(&table[size..], FILLING) {
+    print_bytes(first_bytes(table, size));
+    if are_bytes(part_of(table, size, table.len()), FILLING) {
         return;
     }
     io::write_all(1, b"; bytes behind it changed");
+}
+
+// Whether a buffer is as it was.
+fn print_kept(table: &[u8]) {
+    if are_bytes(table, FILLING) {
+        return;
+    }
+    io::write_all(1, b"; buffer changed");
 }
 
 pub fn print_answer(answer: JsonAnswer, table: &[u8]) {
@@ -48,11 +60,7 @@ pub fn print_answer(answer: JsonAnswer, table: &[u8]) {
         JsonAnswer::Refused(number, place) => {
             io::write_all(1, b" refused");
             print_refusal(number, place);
-            if are_bytes(table, FILLING) {
-                io::write_all(1, b"");
-            } else {
-                io::write_all(1, b"; buffer changed");
-            }
+            print_kept(table);
         }
     }
     io::write_all(1, b"\n");

@@ -41,7 +41,7 @@ made : (t table buffer : List ℕ) → Makes t table → length table ≤ length
     → JsonAnswered t buffer (A.Written (length table)) (table ++ drop (length table) buffer)
 made t table buffer m room =
     subst (λ (s : List ℕ). length s ≤ 16384 → length s ≤ length buffer → JsonAnswered t buffer (A.Written (length s)) (s ++ drop (length s) buffer)) (m .is-table)
-    (λ a b. written (m .text) (record { members = none-found (documentOf (m .text)) (m .sound-members); records = m .sound-records }) a b)
+    (λ a b. written (m .text) (record { sound-members = none-found (documentOf (m .text)) (m .sound-members); sound-records = m .sound-records }) a b)
     (m .short) room
 
 pub every-table : (table : List ℕ) (n : ℕ) → Bytes table → reading table ≡ R.Accepted n
@@ -62,5 +62,5 @@ no-other t buffer left n y s i = by y refl
     by (too-long w h a) e = absurd (let z : _≡_ {A = ℕ} 0 1 = cc in omega arith)
     by (no-room w h a b) e = absurd (let z : _≡_ {A = ℕ} 0 1 = cc in omega arith)
     by (written w h a b) e =
-        document-grouped (documentOf w) (no-fault (documentOf w) (h .members)) s
+        document-grouped (documentOf w) (no-fault (documentOf w) (h .sound-members)) s
         (subst (λ (rows : List Statement). In s rows) (json-means t buffer left n y w .1) i)

@@ -84,7 +84,7 @@ operator-known x h = by (operatorKind x) (place-bound 1 operatorNames x) h
 
 key-known : (x : List ℕ) → eqb (keyKind x) 0 ≡ false → keyNumber (keyAt (keyKind x)) ≡ keyKind x
 unfolding keyKind keyNames
-key-known x h = by (keyKind x) (place-bound 1 keyNames (map small x)) h
+key-known x h = by (keyKind x) (place-bound 1 (map (map small) keyNames) (map small x)) h
   where
     by : (k : ℕ) → (k < 6) ⊎ (k ≡ 0) → eqb k 0 ≡ false → keyNumber (keyAt k) ≡ k
     by zero b h = never (cc)
