@@ -71,14 +71,30 @@ pub fn next_token(text: &[u8], from: Mark) -> Met
                 } else {
                     let phase = next.phase;
                     let stack = next.stack;
-                    return Met::Token(event, at, Mark { at: at + 1, phase, stack });
+                    return Met::Token(
+                        event,
+                        at,
+                        Mark {
+                            at: at + 1,
+                            phase,
+                            stack,
+                        },
+                    );
                 }
             }
             Turn::Fails => {
                 if is_nothing(event) {
                     return Met::None;
                 }
-                return Met::Token(event, at, Mark { at: text.len(), phase: Phase::Value, stack: 1 });
+                return Met::Token(
+                    event,
+                    at,
+                    Mark {
+                        at: text.len(),
+                        phase: Phase::Value,
+                        stack: 1,
+                    },
+                );
             }
         }
     }

@@ -22,7 +22,8 @@ fn run_buffer(text: &[u8], size: usize) {
 }
 
 pub fn run_buffers() {
-    let text = b"{\"Version\":\"2012-10-17\",\"Statement\":{\"Effect\":\"Allow\",\"Principal\":\"*\",\"Action\":\"a*\",\"Resource\":\"r\"}}";
+    let text =
+        b"{\"Version\":\"2012-10-17\",\"Statement\":{\"Effect\":\"Allow\",\"Principal\":\"*\",\"Action\":\"a*\",\"Resource\":\"r\"}}";
     let mut size: usize = 0;
     while size <= 20 {
         run_buffer(text, size);

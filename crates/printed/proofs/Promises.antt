@@ -21,7 +21,7 @@ pub json-every-table : (table : List ℕ) (n : ℕ) → Bytes table → reading 
     → ((s : Statement) → In s (rowsOf table) → Grouped s)
     → (t : List ℕ)
     × ((buffer : List ℕ) → length table ≤ length buffer
-      → JsonAnswered t buffer (A.Written (length table)) (table ++ drop (length table) buffer))
+    → JsonAnswered t buffer (A.Written (length table)) (table ++ drop (length table) buffer))
 json-every-table = Answering.every-table
 
 -- "Other tables no text makes": in each statement of a table that is written for a text, the conditions of one operator stand together and

@@ -69,8 +69,8 @@ loop-again c =
     let blank = sym (c .before .before .is-nothing .ensures ∙ ap isNothing event) ∙ c .before .if1 .taken in (
       omega (arith, l .inv .0, c .run-end .ensures),
       l .inv .1 ∙ passed text (l .at) (l .state) h next on blank
-      ∙ tokens-over (next .stack) (next .phase) (drop (l .at + 1) text)
-      ∙ ap (λ (s : List ℕ). tokensFrom s (next .phase) (next .stack)) (behind-run text (l .at + 1) (next .phase) (c .run-end .result) (c .run-end .ensures)),
+          ∙ tokens-over (next .stack) (next .phase) (drop (l .at + 1) text)
+          ∙ ap (λ (s : List ℕ). tokensFrom s (next .phase) (next .stack)) (behind-run text (l .at + 1) (next .phase) (c .run-end .result) (c .run-end .ensures)),
     )
 
 add-t21 : tie.Need-add-t21 Inv-loop μ-loop
@@ -84,7 +84,7 @@ returns c =
     let next = c .before .before .before .next .given .0 .0 in
     let on = sym (c .before .before .before .before .before .step .ensures) ∙ c .before .before .before .next .given .1 in (
       l .inv .1 ∙ taken text (l .at) (l .state) h next on
-      ∙ ap (λ (e : Event). mark e (length text - l .at) (drop (l .at + 1) text) (tokensFrom (drop (l .at + 1) text) (next .phase) (next .stack))) (sym (c .before .before .before .before .before .before .event-of .ensures)),
+          ∙ ap (λ (e : Event). mark e (length text - l .at) (drop (l .at + 1) text) (tokensFrom (drop (l .at + 1) text) (next .phase) (next .stack))) (sym (c .before .before .before .before .before .before .event-of .ensures)),
       (l .inv .0, omega arith, omega arith, sym (c .before .is-nothing .ensures) ∙ c .if1 .left),
     )
 
@@ -110,7 +110,7 @@ returns-3 c =
     let h = c .before .before .before .before .before .before .before .loop-test .taken in
     let off = sym (c .before .before .before .before .step .ensures) ∙ c .before .before .enum-told .given .1 in (
       l .inv .1 ∙ broken text (l .at) (l .state) h P.Value 1 off
-      ∙ ap (λ (e : Event). mark e (length text - l .at) (drop (l .at + 1) text) (tokensFrom (drop (length text) text) P.Value 1)) (sym (c .before .before .before .before .before .event-of .ensures)),
+          ∙ ap (λ (e : Event). mark e (length text - l .at) (drop (l .at + 1) text) (tokensFrom (drop (length text) text) P.Value 1)) (sym (c .before .before .before .before .before .event-of .ensures)),
       (l .inv .0, h, omega arith, sym (c .before .is-nothing2 .ensures) ∙ c .if2 .left),
     )
 
