@@ -118,16 +118,16 @@ meaning_of() { # NUMBER
     6) echo "too many (32 statements, 64 strings and 4 conditions of a statement), or a string of no bytes or over 128" ;;
     7) echo "a value has only printable bytes, and no space" ;;
     8) echo "this is not allowed here: a wildcard in a principal, a variable, no network, or a key of another sort than its operator" ;;
-    1) echo "the table would have over 16,384 bytes, or the text is longer than this program takes" ;;
+    1) echo "the table would have over 16,384 bytes, or the text has over 131,072, which is more than this command takes" ;;
     *) echo "docs/RULES.md, 7.4, has the numbers" ;;
     esac
 }
 
-# Says where a policy is refused: file, line and column, and in words why.
+# Says where a policy is refused: file, line and column, and in words why. A column is a character: bytes 80 to BF begin none.
 say_where() { # FILE NUMBER PLACE
     local line column
     line=$(($(head -c "$3" "$1" | LC_ALL=C tr -dc '\n' | wc -c) + 1))
-    column=$(($(head -c "$3" "$1" | LC_ALL=C tail -n 1 | wc -c) + 1))
+    column=$(($(head -c "$3" "$1" | LC_ALL=C tail -n 1 | LC_ALL=C tr -d '\200-\277' | wc -c) + 1))
     [ "$3" -gt 0 ] && [ "$(head -c "$3" "$1" | tail -c 1 | od -An -tu1 | tr -d ' ')" = 10 ] && column=1
     echo "gap: $1, line $line, column $column: refusal $2: $(meaning_of "$2")" >&2
 }
