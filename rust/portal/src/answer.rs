@@ -11,7 +11,7 @@ const SHOWN: u64 = 1 << 63;
 const STRING_BYTES: usize = 512;
 
 /// An answer of one of the entry points.
-#[derive(Clone, Copy, Debug, PartialEq, Eq)]
+#[derive(Clone, Debug, PartialEq, Eq)]
 enum Answer {
     Number(u32),
     Refused(Refusal),
@@ -27,7 +27,7 @@ impl Answer {
         } else if high == 0 {
             Answer::Number(low)
         } else {
-            Answer::Refused(Refusal { number: high as u16, table: (high >> 16) as u16, place: low })
+            Answer::Refused(Refusal::new(high as u16, (high >> 16) as u16, low.into()))
         }
     }
 }
@@ -102,7 +102,7 @@ mod tests {
         assert_eq!(verdict(0), Ok(Verdict::NotMentioned));
         assert_eq!(verdict(1), Ok(Verdict::Allowed));
         assert_eq!(verdict(2), Ok(Verdict::DeniedByRule));
-        assert_eq!(verdict(9 << 32 | 6), Err(Refusal { number: 9, table: 0, place: 6 }));
+        assert_eq!(verdict(9 << 32 | 6), Err(Refusal::new(9, 0, 6)));
     }
 
     #[test]
@@ -115,8 +115,8 @@ mod tests {
     fn counts() {
         assert_eq!(count(0), Ok(0));
         assert_eq!(count(16_777_216), Ok(16_777_216));
-        assert_eq!(count(1 << 48 | 1 << 32 | 16_384), Err(Refusal { number: 1, table: 1, place: 16_384 }));
-        assert_eq!(count(2 << 48 | 4 << 32 | 7), Err(Refusal { number: 4, table: 2, place: 7 }));
+        assert_eq!(count(1 << 48 | 1 << 32 | 16_384), Err(Refusal::new(1, 1, 16_384)));
+        assert_eq!(count(2 << 48 | 4 << 32 | 7), Err(Refusal::new(4, 2, 7)));
     }
 
     #[test]
@@ -142,6 +142,6 @@ mod tests {
         assert_eq!(shown.address, Some(u32::MAX));
         let absent = gap(SHOWN | 0b1000 << 32, &values).unwrap();
         assert_eq!((absent.keys, absent.address), ([None, None, None, Some(vec![])], None));
-        assert_eq!(gap(13 << 32, &values), Err(Refusal { number: 13, table: 0, place: 0 }));
+        assert_eq!(gap(13 << 32, &values), Err(Refusal::new(13, 0, 0)));
     }
 }

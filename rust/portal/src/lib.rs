@@ -3,8 +3,8 @@
 //!
 //! A table is a byte string in the stored form; [`Table::from_json`] makes one of a policy in the public JSON form.
 //! [`judge`] says whether it allows one [`Request`]; [`compare`] lists what one table allows and another does not. All
-//! answer for every input, or refuse with a [`Refusal`] or [`JsonRefusal`] that says why and where. What they compute is
-//! proved; this package only lends them memory and decodes their answers.
+//! answer for every input, or refuse with a [`Refusal`] that says why and where. What they compute is proved; this package
+//! only lends them memory and decodes their answers.
 
 #![deny(unsafe_code)]
 
@@ -23,7 +23,6 @@ mod verdict;
 pub use columns::Key;
 pub use compare::{compare, Gaps, GapsIter};
 pub use gap::Gap;
-pub use json::JsonRefusal;
 pub use refusal::Refusal;
 pub use request::Request;
 pub use table::Table;

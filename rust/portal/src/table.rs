@@ -4,7 +4,7 @@ use std::ops::Deref;
 
 use crate::answer;
 use crate::ffi;
-use crate::json::JsonRefusal;
+use crate::refusal::Refusal;
 
 /// No table is longer (RULES 2.2).
 const TABLE_BYTES: usize = 16_384;
@@ -28,7 +28,7 @@ const TABLE_BYTES: usize = 16_384;
 /// )?;
 /// let request = Request::new(b"alice", b"clock:ReadOffset", b"thirteenth");
 /// assert_eq!(judge(&table, &request), Ok(Verdict::Allowed));
-/// # Ok::<(), portal::JsonRefusal>(())
+/// # Ok::<(), portal::Refusal>(())
 /// ```
 ///
 /// A policy that is not taken says where and why:
@@ -36,7 +36,7 @@ const TABLE_BYTES: usize = 16_384;
 /// ```
 /// let policy = b"{\n  \"Version\": \"2012-10-17\",\n  \"Statment\": []\n}";
 /// let refusal = portal::Table::from_json(policy).unwrap_err();
-/// assert_eq!((refusal.number, refusal.line, refusal.column), (21, 3, 3));
+/// assert_eq!((refusal.number, refusal.line_and_column()), (21, Some((3, 3))));
 /// assert_eq!(
 ///     refusal.to_string(),
 ///     "line 3, column 3: the member \"Statment\" is unknown: a policy has Version and Statement (refusal 21)"
@@ -47,10 +47,10 @@ pub struct Table(Vec<u8>);
 
 impl Table {
     /// The table of a policy in the public JSON form.
-    pub fn from_json(json: &[u8]) -> Result<Table, JsonRefusal> {
+    pub fn from_json(json: &[u8]) -> Result<Table, Refusal> {
         let mut bytes = vec![0; TABLE_BYTES];
         let length = answer::written(ffi::read_json(json, &mut bytes))
-            .map_err(|(number, place)| JsonRefusal::new(json, number, place))?;
+            .map_err(|(number, place)| Refusal::of_policy(json, number, place))?;
         bytes.truncate(length);
         bytes.shrink_to_fit();
         Ok(Table(bytes))

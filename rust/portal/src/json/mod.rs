@@ -6,34 +6,23 @@ mod excerpt;
 mod expected;
 mod position;
 
-use std::error::Error;
 use std::fmt;
 
 use around::Around;
 use excerpt::excerpt;
 
-/// A refused policy: a number of RULES 7, and where. Its text names line and column, what stands there, what was expected,
-/// and the number.
+/// Where a policy is refused, and in words why: what stands there, and what was expected.
 #[derive(Clone, Debug, PartialEq, Eq, Hash)]
-pub struct JsonRefusal {
-    /// 20 to 22, 3 to 8, or 1.
-    pub number: u16,
-    /// The byte of the text, counted from 0; its length, where it ends too early. For 1, which is no fault of one place,
-    /// the number of bytes that a table may have.
-    pub place: usize,
-    /// The line of the place, counted from 1; 0 for number 1.
-    pub line: usize,
-    /// The character of the line, counted from 1; 0 for number 1.
-    pub column: usize,
+pub struct PolicyFault {
+    pub line_and_column: Option<(usize, usize)>,
     why: String,
 }
 
-impl JsonRefusal {
-    pub(crate) fn new(json: &[u8], number: u16, place: usize) -> JsonRefusal {
+impl PolicyFault {
+    pub fn new(json: &[u8], number: u16, place: usize) -> PolicyFault {
         if !(3..=8).contains(&number) && !(20..=22).contains(&number) {
-            return JsonRefusal { number, place, line: 0, column: 0, why: expected::of_the_table(number) };
+            return PolicyFault { line_and_column: None, why: expected::of_the_table(number) };
         }
-        let (line, column) = position::line_and_column(json, place);
         let around = Around::place(json, place);
         let found = excerpt(json, place);
         let why = match number {
@@ -42,17 +31,15 @@ impl JsonRefusal {
             22 => expected::of_the_type(&around, json, place, &found),
             _ => expected::of_the_record(&around, number, json, place, &found),
         };
-        JsonRefusal { number, place, line, column, why }
+        PolicyFault { line_and_column: Some(position::line_and_column(json, place)), why }
     }
 }
 
-impl Error for JsonRefusal {}
-
-impl fmt::Display for JsonRefusal {
+impl fmt::Display for PolicyFault {
     fn fmt(&self, out: &mut fmt::Formatter) -> fmt::Result {
-        if self.line > 0 {
-            write!(out, "line {}, column {}: ", self.line, self.column)?;
+        if let Some((line, column)) = self.line_and_column {
+            write!(out, "line {line}, column {column}: ")?;
         }
-        write!(out, "{} (refusal {})", self.why, self.number)
+        write!(out, "{}", self.why)
     }
 }

@@ -11,7 +11,8 @@ fn each_as_worked_out_by_hand() {
         let outcome = match Table::from_json(&document.json) {
             Ok(table) => Outcome::Table(table.into_bytes()),
             Err(refusal) => {
-                Outcome::Refused { number: refusal.number, line: refusal.line, column: refusal.column }
+                let (line, column) = refusal.line_and_column().expect("a place in the text");
+                Outcome::Refused { number: refusal.number, line, column }
             }
         };
         assert_eq!(outcome, document.outcome, "{}", document.name);

@@ -1,10 +1,10 @@
 //! Tables of policies, and the texts of refusals.
 
-use portal::{compare, judge, JsonRefusal, Request, Table, Verdict};
+use portal::{compare, judge, Refusal, Request, Table, Verdict};
 use support::policies;
 use support::random::Random;
 
-fn refused(json: &str) -> JsonRefusal {
+fn refused(json: &str) -> Refusal {
     Table::from_json(json.as_bytes()).expect_err("a refusal")
 }
 
@@ -155,7 +155,7 @@ fn a_table_that_would_be_too_long() {
     let (tree, _) =
         (0..).map(|_| policies::near_16384(&mut random)).find(|(_, bytes)| *bytes > 16_384).unwrap();
     let refusal = Table::from_json(&policies::plainly(&tree)).unwrap_err();
-    assert_eq!((refusal.number, refusal.place, refusal.line, refusal.column), (1, 16_384, 0, 0));
+    assert_eq!((refusal.number, refusal.place, refusal.line_and_column()), (1, 16_384, None));
     assert_eq!(
         refusal.to_string(),
         "the policy is too long: its table would have more than 16384 bytes (refusal 1)"

@@ -24,9 +24,7 @@ pub fn judged(table: &[u8], request: &Request) -> Result<Verdict, Refusal> {
         Ok(oracle::Verdict::Allowed) => Ok(Verdict::Allowed),
         Ok(oracle::Verdict::DeniedByRule) => Ok(Verdict::DeniedByRule),
         Ok(oracle::Verdict::NotMentioned) => Ok(Verdict::NotMentioned),
-        Err(oracle::Refusal { number, place }) => {
-            Err(Refusal { number: number.into(), table: 0, place: place as u32 })
-        }
+        Err(oracle::Refusal { number, place }) => Err(Refusal::new(number.into(), 0, place as u64)),
     };
     assert_eq!(answer, expected, "table {table:02X?}, {request:?}");
     answer

@@ -11,7 +11,7 @@ use support::build::*;
 fn printed(first: &[u8], second: &[u8]) -> String {
     let gaps = match compare(first, second) {
         Ok(gaps) => gaps,
-        Err(Refusal { number, table, place }) => return format!("refused {number} {table} {place}\n"),
+        Err(Refusal { number, table, place, .. }) => return format!("refused {number} {table} {place}\n"),
     };
     let mut printed = format!("{gaps}\n");
     for (k, gap) in gaps.iter().take(16).enumerate() {
@@ -62,5 +62,5 @@ fn gaps_by_the_million() {
     assert_eq!(gaps.len(), 16_777_216 - 32);
     let last = gaps.get(gaps.len() - 1).unwrap();
     assert!(is_allowed(&first, &last.request()) && !is_allowed(&second, &last.request()));
-    assert_eq!(gaps.get(gaps.len()), Err(Refusal { number: 13, table: 0, place: 0 }));
+    assert_eq!(gaps.get(gaps.len()), Err(Refusal::new(13, 0, 0)));
 }

@@ -77,7 +77,7 @@ fn wild_pairs_compare_alike() {
         match compared(&first, &second, 1) {
             Ok(_) => {}
             Err(refusal) => {
-                assert_eq!((refusal.number, refusal.place), (11, column as u32));
+                assert_eq!((refusal.number, refusal.place), (11, column as u64));
                 refused += 1;
             }
         }

@@ -139,7 +139,7 @@ fn the_list_of_gaps() {
     let gaps = compare(&gaps_of_rows, &NOTHING).unwrap();
     let shown = |k: usize| gaps.get(k).unwrap().principal;
     assert_eq!([shown(0), shown(1), shown(2)], [b"x".to_vec(), b"y".to_vec(), b"z".to_vec()]);
-    assert_eq!(gaps.get(3), Err(Refusal { number: 13, table: 0, place: 0 }));
+    assert_eq!(gaps.get(3), Err(Refusal::new(13, 0, 0)));
     assert_eq!(gaps.get(usize::MAX).unwrap_err().number, 13);
     assert_eq!((gaps.iter().len(), gaps.iter().count()), (3, 3));
     let mut rest = gaps.iter();

@@ -5,7 +5,7 @@ use portal::{Refusal, Request, Verdict};
 use support::build::*;
 
 fn refused(number: u16, table: u16, place: usize) -> Refusal {
-    Refusal { number, table, place: place as u32 }
+    Refusal::new(number, table, place as u64)
 }
 
 fn letters(letter: char, length: usize) -> String {

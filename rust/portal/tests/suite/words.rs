@@ -5,8 +5,8 @@ use oracle::gaps_program;
 use portal::{compare, Refusal, Verdict};
 use support::random::Random;
 
-fn text(number: u16, table: u16, place: u32) -> String {
-    Refusal { number, table, place }.to_string()
+fn text(number: u16, table: u16, place: u64) -> String {
+    Refusal::new(number, table, place).to_string()
 }
 
 #[test]
