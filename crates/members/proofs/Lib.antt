@@ -1,5 +1,4 @@
 -- What the proofs of several functions share, the laws of the faults, and the promises: a file for each concept.
-pub mod OneByte
 pub mod OneToken
 pub mod Folded
 pub mod Judging

@@ -21,7 +21,7 @@ fn run_buffer(text: &[u8], size: usize) {
     print_answer(answer, &table);
 }
 
-pub fn run_buffers() {
+pub(crate) fn run_buffers() {
     let text =
         b"{\"Version\":\"2012-10-17\",\"Statement\":{\"Effect\":\"Allow\",\"Principal\":\"*\",\"Action\":\"a*\",\"Resource\":\"r\"}}";
     let mut size: usize = 0;

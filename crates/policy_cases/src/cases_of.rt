@@ -1,6 +1,6 @@
 // The cases of the text, a line for each: `NAME: TEXT`. Between backquotes words in hex stand for bytes (`61*128` is the byte 61, 128
 // times); every other byte stands for itself. A line without a colon, or with `#` in front, is no case.
-use crate::printed::fill;
+use crate::printed::FILLING;
 use crate::printed::print_answer;
 use cases::laying::lay_words;
 use cases::text::behind_next;
@@ -8,6 +8,7 @@ use cases::text::first_bytes;
 use cases::text::part_of;
 use cases::text::place_of;
 use policy::reader::read_json;
+use stored::limits::MOST_BYTES;
 use stored::records::byte_at;
 ghost use Prim.Native.Nat.{_≤_, _<_};
 
@@ -66,14 +67,14 @@ fn lay_case(text: &[u8], room: &mut [u8]) -> usize {
     to
 }
 
-fn run_case(text: &[u8], json: &mut [u8], table: &mut [u8]) {
+fn run_case(text: &[u8], json: &mut [u8]) {
+    let mut table = [FILLING; MOST_BYTES];
     let size = lay_case(text, json);
-    fill(table);
-    let answer = read_json(part_of(json, 0, size), table);
-    print_answer(answer, table);
+    let answer = read_json(part_of(json, 0, size), &mut table);
+    print_answer(answer, &table);
 }
 
-fn run_line(line: &[u8], json: &mut [u8], table: &mut [u8]) {
+fn run_line(line: &[u8], json: &mut [u8]) {
     if byte_at(line, 0) == b'#' {
         return;
     }
@@ -82,14 +83,14 @@ fn run_line(line: &[u8], json: &mut [u8], table: &mut [u8]) {
         return;
     }
     io::write_all(1, part_of(line, 0, colon));
-    run_case(part_of(line, colon + 2, line.len()), json, table);
+    run_case(part_of(line, colon + 2, line.len()), json);
 }
 
-pub fn run_cases(text: &[u8], json: &mut [u8], table: &mut [u8]) {
+pub(crate) fn run_cases(text: &[u8], json: &mut [u8]) {
     let mut at: usize = 0;
     while at < text.len() {
         let end = behind_next(text, at, b'\n');
-        run_line(part_of(text, at, end - 1), json, table);
+        run_line(part_of(text, at, end - 1), json);
         at = end;
     }
 }

@@ -4,12 +4,11 @@ mod buffers;
 mod cases_of;
 mod printed;
 
-// The text of the cases, the text of one, and room for its table.
+// The text of the cases, and room for the text of one.
 fn main() {
     let mut text = [0u8; 131072];
     let mut json = [0u8; 65536];
-    let mut table = [0u8; 16384];
     let size = io::read_full(0, &mut text);
-    cases_of::run_cases(&text[..size], &mut json, &mut table);
+    cases_of::run_cases(&text[..size], &mut json);
     buffers::run_buffers();
 }

@@ -8,15 +8,7 @@ use policy::reader::JsonAnswer;
 use stored::records::byte_at;
 
 // No record of these cases has it.
-pub const FILLING: u8 = 0xEE;
-
-pub fn fill(table: &mut [u8]) {
-    let mut at: usize = 0;
-    while at < table.len() {
-        table[at] = FILLING;
-        at += 1;
-    }
-}
+pub(crate) const FILLING: u8 = 0xEE;
 
 fn print_bytes(bytes: &[u8]) {
     let mut at: usize = 0;
@@ -49,7 +41,7 @@ fn print_kept(table: &[u8]) {
     io::write_all(1, b"; buffer changed");
 }
 
-pub fn print_answer(answer: JsonAnswer, table: &[u8]) {
+pub(crate) fn print_answer(answer: JsonAnswer, table: &[u8]) {
     match answer {
         JsonAnswer::Written(size) => {
             io::write_all(1, b" written");

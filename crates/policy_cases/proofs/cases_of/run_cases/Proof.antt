@@ -1,4 +1,4 @@
--- The place stays in the text, and the two buffers keep their lengths.
+-- The place stays in the text, and the room keeps its length.
 use Prim.Native.Nat.{_-_, _≤_}
 use mathlib.Core.Path.{_≡_}
 use lib.ListN.{length}
@@ -12,10 +12,10 @@ use Rattle.cases.proofs.text.part_of.Reads as part-of-reads
 use Rattle.policy_cases.proofs.cases_of.run_line.Reads as run-line-reads
 
 abbrev Inv-loop : tie.InvT-loop
-Inv-loop text json₀ table₀ at₀ json table at = (at ≤ length text) × (length json ≡ length json₀) × (length table ≡ length table₀)
+Inv-loop text json₀ at₀ json at = (at ≤ length text) × (length json ≡ length json₀)
 
 abbrev μ-loop : tie.MeasureT-loop
-μ-loop text json₀ table₀ at₀ json table at = length text - at
+μ-loop text json₀ at₀ json at = length text - at
 
 loop-holds : tie.Need-loop-holds Inv-loop μ-loop
 loop-holds c = search needs
@@ -41,9 +41,6 @@ loop-again c = search needs
 same-length : tie.Need-same-length Inv-loop μ-loop
 same-length c = search needs
 
-same-length-2 : tie.Need-same-length-2 Inv-loop μ-loop
-same-length-2 c = search needs
-
 returns : tie.Need-returns Inv-loop μ-loop
 returns c = search needs
 
@@ -61,5 +58,4 @@ run-cases-spec =
     loop-less
     loop-again
     same-length
-    same-length-2
     returns)
