@@ -112,7 +112,7 @@ meaning_of() { # NUMBER
     case $1 in
     20) echo "the text is not JSON from here on, or has an escape or a depth that is not taken" ;;
     21) echo "this member, operator or key is unknown, or there for the second time" ;;
-    22) echo "a member is missing, or this value is of the wrong type" ;;
+    22) echo "a member is missing, or this value is of the wrong type, another Version, or a principal that belongs under AWS" ;;
     3) echo "Effect is Allow or Deny" ;;
     5) echo "a list needs a string" ;;
     6) echo "too many (32 statements, 64 strings and 4 conditions of a statement), or a string of no bytes or over 128" ;;
@@ -123,11 +123,11 @@ meaning_of() { # NUMBER
     esac
 }
 
-# Says where a policy is refused: file, line and column, and in words why. A column is a character: bytes 80 to BF begin none.
+# Says where a policy is refused: file, line and column, and in words why. A column is a character; in the middle of one it is that one.
 say_where() { # FILE NUMBER PLACE
     local line column
     line=$(($(head -c "$3" "$1" | LC_ALL=C tr -dc '\n' | wc -c) + 1))
-    column=$(($(head -c "$3" "$1" | LC_ALL=C tail -n 1 | LC_ALL=C tr -d '\200-\277' | wc -c) + 1))
+    column=$(($(head -c "$3" "$1" | LC_ALL=C tail -n 1 | LC_ALL=C.UTF-8 wc -m) + 1))
     [ "$3" -gt 0 ] && [ "$(head -c "$3" "$1" | tail -c 1 | od -An -tu1 | tr -d ' ')" = 10 ] && column=1
     echo "gap: $1, line $line, column $column: refusal $2: $(meaning_of "$2")" >&2
 }

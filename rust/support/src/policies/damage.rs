@@ -1,33 +1,13 @@
 //! Faults among members and values: missing, twice, unknown, of the wrong type, past a limit, of a form that no record
 //! has. Some changes are none, and leave a policy right.
 
-use super::draw::{in_any_case, shuffle, KEYS, OPERATORS};
+use super::draw::{in_any_case, shuffle, KEYS, MEMBERS, OPERATORS};
 use super::tree::{text, Member, Tree};
 use crate::random::Random;
 
 const WORDS: [&str; 8] = ["0", "-1.5e+3", "10", "0.0E-0", "1e5", "true", "false", "null"];
-const NAMES: [&str; 20] = [
-    "Version",
-    "Statement",
-    "Sid",
-    "Effect",
-    "Principal",
-    "NotPrincipal",
-    "Action",
-    "NotAction",
-    "Resource",
-    "NotResource",
-    "Condition",
-    "AWS",
-    "Id",
-    "Service",
-    "",
-    "effect",
-    "action",
-    "Not",
-    "Bool",
-    "NumericEquals",
-];
+/// Names that no policy has there.
+const STRANGE: [&str; 8] = ["Id", "Service", "", "effect", "action", "Not", "Bool", "NumericEquals"];
 const TEXTS: [&str; 44] = [
     "",
     " ",
@@ -111,7 +91,7 @@ fn name(random: &mut Random) -> Vec<u8> {
             in_any_case(random, key)
         }
         2 => random.pick(&TEXTS).into(),
-        _ => random.pick(&NAMES).into(),
+        _ => random.pick(&[MEMBERS.as_slice(), &STRANGE].concat()).into(),
     }
 }
 

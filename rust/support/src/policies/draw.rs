@@ -26,6 +26,21 @@ pub const OPERATORS: [(&str, u8); 12] = [
     ("IpAddressIfExists", 0x15),
     ("NotIpAddressIfExists", 0x16),
 ];
+/// Every member that a policy's objects can have.
+pub const MEMBERS: [&str; 12] = [
+    "Version",
+    "Statement",
+    "Sid",
+    "Effect",
+    "Principal",
+    "NotPrincipal",
+    "Action",
+    "NotAction",
+    "Resource",
+    "NotResource",
+    "Condition",
+    "AWS",
+];
 pub const KEYS: [&str; 5] = ["aws:SourceVpc", "s3:prefix", "aws:SourceVpce", "aws:Referer", "aws:SourceIp"];
 const ADDRESS: usize = 4;
 const ELEMENTS: [&str; 3] = ["Principal", "Action", "Resource"];

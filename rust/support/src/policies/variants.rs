@@ -3,6 +3,7 @@
 
 use std::slice::from_ref;
 
+use super::draw::MEMBERS;
 use super::tree::{member, text, Member, Tree};
 
 fn texts(listed: &[&str]) -> Tree {
@@ -54,19 +55,8 @@ fn types() -> Vec<Tree> {
     types
 }
 
-const NAMES: [&str; 24] = [
-    "Version",
-    "Statement",
-    "Sid",
-    "Effect",
-    "Principal",
-    "NotPrincipal",
-    "Action",
-    "NotAction",
-    "Resource",
-    "NotResource",
-    "Condition",
-    "AWS",
+/// Names that stand elsewhere, or nowhere.
+const OTHERS: [&str; 12] = [
     "Id",
     "aws",
     "effect",
@@ -110,7 +100,7 @@ fn object_variants(members: &[Member]) -> Vec<Tree> {
     };
     for at in 0..members.len() {
         with(&|changed| drop(changed.remove(at)));
-        for name in NAMES {
+        for name in MEMBERS.into_iter().chain(OTHERS) {
             with(&|changed| changed[at].0 = name.into());
         }
         for to in 0..=members.len() {
@@ -119,7 +109,7 @@ fn object_variants(members: &[Member]) -> Vec<Tree> {
         }
     }
     for to in 0..=members.len() {
-        for name in NAMES {
+        for name in MEMBERS.into_iter().chain(OTHERS) {
             with(&|changed| changed.insert(to, member(name, text("*"))));
         }
     }
