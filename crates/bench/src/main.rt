@@ -1,5 +1,8 @@
 // Runs the bench list (RULES 10): the lines marked P by matching and judging, the others, which stand on standard input, by
 // comparing. Each line is printed in its own words, and below it what came out.
+
+#![tactic(auto)]
+
 mod marked;
 
 use pairs::line::run_lines;

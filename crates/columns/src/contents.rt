@@ -19,7 +19,7 @@ use stored::items::{Item, column_place};
 use stored::records::{Record, record_at};
 
 // The list at hand of a walk: whether it is of the column, and how it is read.
-#[derive(Drop)]
+#[derive(Clone, Copy)]
 pub struct ListAt {
     pub here: bool,
     pub reading: Reading,

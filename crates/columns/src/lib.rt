@@ -1,4 +1,7 @@
 // What two tables have in a column: positions and networks, the plan by which rows hold, and footprints.
+
+#![tactic(auto)]
+
 pub mod contents;
 pub mod ends;
 mod last_positions;

@@ -15,7 +15,7 @@ use stored::operators::operator_row;
 use stored::records::{Record, record_at};
 
 // Where the plans of two tables lie: the first's from CODES on, up to where the second's begins, and that one's end.
-#[derive(Drop)]
+#[derive(Clone, Copy)]
 pub struct Plans {
     pub middle: usize,
     pub end: usize,

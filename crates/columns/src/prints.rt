@@ -21,7 +21,7 @@ use states::limits::CODES;
 
 // What is worked out once for all states of a column of strings: where the plans lie, the last positions of their values, and the rows of
 // each table that hold for a state that has none of these.
-#[derive(Drop)]
+#[derive(Clone, Copy)]
 pub struct Prints {
     pub plans: Plans,
     pub ends: [u64; 8],

@@ -17,7 +17,7 @@ pub const NEGATED_LIST: u64 = 3;
 
 pub const FIRST_VALUE: u64 = 4;
 
-#[derive(Drop)]
+#[derive(Clone, Copy)]
 pub struct Run {
     // The bit of the row at hand, and of the next one.
     pub bit: u64,

@@ -167,12 +167,12 @@ module _ (room : ℕ) (a b : List ℕ) (k : ℕ) (buffer : List ℕ) (shape : Sh
         short = λ column.
             subst (λ (r : List Value). length (bytes_in (column_of r column)) ≤ value_room) (sym same) (column-short g.request g.all column);
         laid_down =
-            ap (take value_bytes) g.laid-down
+            ap (take value_bytes) g.values_laid
             ∙ take_at (laid 7 g.request) (drop value_bytes buffer) value_bytes size
             ∙ ap (laid 7) (sym same);
-        kept = ap (drop value_bytes) g.laid-down ∙ drop_at (laid 7 g.request) (drop value_bytes buffer) value_bytes size;
+        kept = ap (drop value_bytes) g.values_laid ∙ drop_at (laid 7 g.request) (drop value_bytes buffer) value_bytes size;
         size =
-            ap length g.laid-down
+            ap length g.values_laid
             ∙ length-append (laid 7 g.request) (drop value_bytes buffer)
             ∙ omega (arith, size, length-drop value_bytes buffer, g.long);
       }
@@ -188,7 +188,7 @@ module _ (room : ℕ) (a b : List ℕ) (k : ℕ) (buffer : List ℕ) (shape : Sh
 
       same : request_shown shape values ≡ g.request
       same =
-          ap₂ request_shown g.shaped g.laid-down
+          ap₂ request_shown g.shaped g.values_laid
           ∙ shown-request g.request eight ok g.all (drop value_bytes buffer)
 
       judged : (judgement a g.request ≡ J.Allowed) × (judgement b g.request ≡ J.Allowed → ⊥)

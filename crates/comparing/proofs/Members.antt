@@ -22,6 +22,7 @@ module _ {A : Type 0} where
       by (inr j) = inr j
 
   pub in_left : (x : A) (l m : List A) → In x l → In x (l ++ m)
+  in_left x [] m x'' = elim x'' [ ]
   in_left x (y ∷ l) m (inl e) = inl e
   in_left x (y ∷ l) m (inr i) = inr (in_left x l m i)
 
@@ -54,6 +55,7 @@ module _ {A : Type 0} where
 
   -- filtered lists
   pub in_kept : (test : A → Bool) (x : A) (l : List A) → In x (keep test l) → In x l × (test x ≡ true)
+  in_kept test x [] i = elim i [ ]
   in_kept test x (y ∷ l) i = by (test y) refl (in_kept test x l) i
     where
       by : (t : Bool) → test y ≡ t → (In x (keep test l) → In x l × (test x ≡ true))
@@ -63,6 +65,7 @@ module _ {A : Type 0} where
       by false e more j = (inr (more j).0, (more j).1)
 
   pub kept_in : (test : A → Bool) (x : A) (l : List A) → In x l → test x ≡ true → In x (keep test l)
+  kept_in test x [] i e = elim i [ ]
   kept_in test x (y ∷ l) i e = by (test y) refl (λ j. kept_in test x l j e) i
     where
       by : (t : Bool) → test y ≡ t → (In x l → In x (keep test l)) → (x ≡ y) ⊎ In x l
@@ -101,10 +104,12 @@ module _ {A : Type 0} where
 module _ {A B : Type 0} (f : A → B) where
   -- mapped lists
   pub in-mapped : (y : B) (l : List A) → In y (map f l) → (x : A) × In x l × (y ≡ f x)
+  in-mapped y [] x' = elim x' [ ]
   in-mapped y (x ∷ l) (inl e) = (x, inl refl, e)
   in-mapped y (x ∷ l) (inr i) = let j = in-mapped y l i in (j.0, inr j.1, j.2)
 
   pub mapped_in : (x : A) (l : List A) → In x l → In (f x) (map f l)
+  mapped_in x [] x'' = elim x'' [ ]
   mapped_in x (y ∷ l) (inl e) = inl (ap f e)
   mapped_in x (y ∷ l) (inr i) = inr (mapped_in x l i)
 
@@ -131,6 +136,7 @@ module _ {A B : Type 0} (f : A → B) where
 
   -- functions that agree on a list agree on its members
   pub agree-in : (g : A → B) (l : List A) → map f l ≡ map g l → (x : A) → In x l → f x ≡ g x
+  agree-in g [] e x x4 = elim x4 [ ]
   agree-in g (y ∷ l) e x (inl i) =
       let here : f y ≡ g y = cc in
       ap f i ∙ here ∙ sym (ap g i)

@@ -2,7 +2,7 @@
 use judging::request::Present;
 
 // The number of gaps.
-#[derive(Drop)]
+#[derive(Clone, Copy)]
 pub enum Counting {
     Gaps(u64),
     // The number of the refusal, the table (1, 2, or 0 for the comparison), and the place.
@@ -10,7 +10,7 @@ pub enum Counting {
 }
 
 // What a shown gap is, beside its bytes: the lengths of the values of columns 0 to 6, which keys are there, and the address.
-#[derive(Drop)]
+#[derive(Clone, Copy)]
 pub struct Shape {
     pub principal: usize,
     pub action: usize,
@@ -23,7 +23,7 @@ pub struct Shape {
     pub address: u32,
 }
 
-#[derive(Drop)]
+#[derive(Clone, Copy)]
 pub enum Showing {
     Shown(Shape),
     // The number of the refusal, the table (1, 2, or 0 for the comparison), and the place.

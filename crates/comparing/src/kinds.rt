@@ -9,7 +9,7 @@ use crate::limits::{ALL_ROWS, COLUMNS};
 use states::limits::PRINTS;
 
 // The number of rows of the first table, its allow rows, and the second table's allow rows.
-#[derive(Drop)]
+#[derive(Clone, Copy)]
 pub struct Sides {
     pub size: u64,
     pub allow: u64,
@@ -174,7 +174,7 @@ pub(crate) fn count_gaps(words: &[u64], bounds: [usize; 9], sides: Sides) -> u64
 }
 
 // A footprint of a column, and what is left of k there.
-#[derive(Drop)]
+#[derive(Clone, Copy)]
 pub struct Step {
     pub print: u64,
     pub left: u64,

@@ -1,4 +1,7 @@
 // Comparing two tables: which kinds of request the first allows and the second does not.
+
+#![tactic(auto)]
+
 pub mod answers;
 pub mod compare;
 pub mod kinds;

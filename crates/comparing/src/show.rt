@@ -26,14 +26,14 @@ use states::rows::row_at;
 use states::strings::lay_string;
 
 // What is shown of a column of strings: whether it is there, and its length.
-#[derive(Drop)]
+#[derive(Clone, Copy)]
 pub struct ShownText {
     pub present: bool,
     pub length: usize,
 }
 
 // What is shown of column 7.
-#[derive(Drop)]
+#[derive(Clone, Copy)]
 pub struct ShownAddress {
     pub present: bool,
     pub address: u32,

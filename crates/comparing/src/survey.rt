@@ -24,14 +24,14 @@ use states::rows::row_at;
 use states::taken::lay_taken;
 
 // What surveying a column finds: more than 512 states, or where its footprints end.
-#[derive(Drop)]
+#[derive(Clone, Copy)]
 pub enum Column {
     Crowded,
     Within(usize),
 }
 
 // The states of a column of strings: the positions of the first table's values, of both tables' values, and the number of states.
-#[derive(Drop)]
+#[derive(Clone, Copy)]
 pub struct States {
     pub own: usize,
     pub positions: usize,
@@ -40,7 +40,7 @@ pub struct States {
 
 // What surveying all columns finds: a crowded column, the lowest; or whether there are too many kinds, and where the footprints of each
 // column begin and end.
-#[derive(Drop)]
+#[derive(Clone, Copy)]
 pub struct AllColumns {
     pub crowded: bool,
     pub column: usize,

@@ -1,5 +1,8 @@
 // The gap program: two tables on standard input, one behind the other; on standard output the number of gaps and the first of them,
 // or the refusal.
+
+#![tactic(auto)]
+
 mod lines;
 mod split;
 

@@ -5,7 +5,7 @@ ghost use Rattle.gaps.specs.Split.{behind_body, passed_kind, passed_at, first_en
 use stored::records::{Kind, byte_at, kind_of, size_of};
 
 // What passing one record leads to.
-#[derive(Drop)]
+#[derive(Clone, Copy)]
 pub enum Passed {
     // The next record stands here.
     Goes(usize),

@@ -17,7 +17,7 @@ use Rattle.json_text.proofs.Stacks.{Bracket, code, not-one}
 use Rattle.json_text.proofs.Accepting.{runs, accepts}
 use Rattle.json_text.proofs.Remaining.{Closes, Rest, Fits}
 use Rattle.json_text.proofs.Inside.{number-whole}
-use Rattle.json_text.proofs.Stepping.{at, steps}
+use Rattle.json_text.proofs.Stepping.{steps}
 
 closed : (ks : List Bracket) → eqb (code ks) 1 ≡ true → Closes ks []
 closed [] h = Blanks.none

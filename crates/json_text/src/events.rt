@@ -5,7 +5,7 @@ ghost use Rattle.json_text.specs.Machinery.Events.{value_event, element_event, m
 use crate::bytes::is_blank;
 use crate::machine::Phase;
 
-#[derive(Drop)]
+#[derive(Clone, Copy)]
 pub enum Event {
     Nothing,
     // A string begins: a member's name, a value.

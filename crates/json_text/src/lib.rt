@@ -1,4 +1,7 @@
 // JSON texts: which byte strings are one, the first byte that fails, and the tokens and strings of those that are.
+
+#![tactic(auto)]
+
 mod bytes;
 pub mod events;
 pub mod machine;

@@ -8,14 +8,14 @@ use crate::strings::{Inside, Within, inside_step};
 use crate::words::{Due, Spelled, due_byte, due_next};
 
 // What a string is: a member's name or a value.
-#[derive(Drop)]
+#[derive(Clone, Copy)]
 pub enum Role {
     Name,
     Content,
 }
 
 // What was read last, and so what is due.
-#[derive(Drop)]
+#[derive(Clone, Copy)]
 pub enum Phase {
     // At the start, behind a colon, behind a comma in a list: a value.
     Value,
@@ -36,14 +36,14 @@ pub enum Phase {
 }
 
 // The open brackets are the binary digits of `stack` behind a first 1, the innermost last: 1 for an object, 0 for a list.
-#[derive(Drop)]
+#[derive(Clone, Copy)]
 pub struct State {
     pub phase: Phase,
     pub stack: u16,
 }
 
 // What a byte leads to.
-#[derive(Drop)]
+#[derive(Clone, Copy)]
 pub enum Turn {
     Next(State),
     Fails,

@@ -4,7 +4,7 @@ ghost use Rattle.json_text.specs.Bytes.{hex_of};
 ghost use Rattle.json_text.specs.Choice.{same_bytes};
 ghost use Rattle.json_text.specs.Machinery.Pieces.{escape_of, piece_of, content_of};
 
-#[derive(Drop)]
+#[derive(Clone, Copy)]
 pub enum Piece {
     Closed,
     // The byte, and how many bytes of the text it takes.

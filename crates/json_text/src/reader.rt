@@ -5,7 +5,7 @@ ghost use Rattle.json_text.specs.Machinery.Reading.{fault_of};
 use crate::machine::{Turn, is_ended, start, step};
 use crate::runs::run_end;
 
-#[derive(Drop)]
+#[derive(Clone, Copy)]
 pub enum Fault {
     Nothing,
     At(usize),

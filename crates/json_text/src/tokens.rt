@@ -7,14 +7,14 @@ use crate::machine::{Phase, State, Turn, step};
 use crate::runs::run_end;
 
 // A place in a text, with the machine's state there.
-#[derive(Drop)]
+#[derive(Clone, Copy)]
 pub struct Mark {
     pub at: usize,
     pub phase: Phase,
     pub stack: u16,
 }
 
-#[derive(Drop)]
+#[derive(Clone, Copy)]
 pub enum Met {
     // What begins or ends, its place, and where to go on: behind its first byte.
     Token(Event, usize, Mark),

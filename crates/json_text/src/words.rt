@@ -3,7 +3,7 @@ ghost use Rattle.std.specs.Prelude.{◌≡◌};
 ghost use Rattle.json_text.specs.Machinery.Words.{due_byte, due_next};
 
 // The letters that are due.
-#[derive(Drop)]
+#[derive(Clone, Copy)]
 pub enum Due {
     Rue,
     Ue,
@@ -16,7 +16,7 @@ pub enum Due {
     L,
 }
 
-#[derive(Drop)]
+#[derive(Clone, Copy)]
 pub enum Spelled {
     More(Due),
     Whole,

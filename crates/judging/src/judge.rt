@@ -11,7 +11,7 @@ use crate::request::{COLUMNS, Present, first_fault};
 use crate::rows::rows_in;
 use stored::reader::{ReadAnswer, read};
 
-#[derive(Drop)]
+#[derive(Clone, Copy)]
 pub enum Judgement {
     Allowed,
     // Some deny statement applies.

@@ -1,4 +1,7 @@
 // Judging: what a row of a table says of a value in a column, the rows that hold for a request, and the judge.
+
+#![tactic(auto)]
+
 pub mod applying;
 pub mod judge;
 pub mod request;

@@ -8,7 +8,7 @@ use stored::values::is_in_range;
 pub const COLUMNS: usize = 8;
 
 // Which of columns 3 to 7 are there.
-#[derive(Drop)]
+#[derive(Clone, Copy)]
 pub struct Present {
     pub vpc: bool,
     pub prefix: bool,

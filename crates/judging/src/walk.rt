@@ -5,7 +5,7 @@ ghost use Rattle.judging.specs.Machinery.Walk.{fresh_walk, closed_of, done_of, b
 
 use matching::reading::Reading;
 
-#[derive(Drop)]
+#[derive(Clone, Copy)]
 pub struct Walk {
     // The bit of the row at hand, and of the next one.
     pub bit: u64,

@@ -1,4 +1,7 @@
 // Judges the requests of standard input by the tables that stand before them. One line for each request says what came out.
+
+#![tactic(auto)]
+
 mod line;
 mod request;
 

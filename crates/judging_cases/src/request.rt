@@ -9,21 +9,21 @@ use judging::request::Present;
 use stored::records::byte_at;
 
 // A column of strings: whether it is there, and where its bytes stand in the room.
-#[derive(Drop)]
+#[derive(Clone, Copy)]
 struct Column {
     present: bool,
     from: usize,
     to: usize,
 }
 
-#[derive(Drop)]
+#[derive(Clone, Copy)]
 struct Elements {
     principal: Column,
     action: Column,
     resource: Column,
 }
 
-#[derive(Drop)]
+#[derive(Clone, Copy)]
 struct Keys {
     vpc: Column,
     prefix: Column,
@@ -31,7 +31,7 @@ struct Keys {
     referer: Column,
 }
 
-#[derive(Drop)]
+#[derive(Clone, Copy)]
 pub struct Request {
     elements: Elements,
     keys: Keys,

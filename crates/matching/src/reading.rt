@@ -4,7 +4,7 @@ ghost use Rattle.matching.specs.Symbols.{ignores_case};
 
 // Fold: an action. Plain: a resource, StringLike, StringNotLike. Literal: StringEquals, StringNotEquals. Principal: `*` alone is
 // everyone, any other value is literal.
-#[derive(Drop)]
+#[derive(Clone, Copy)]
 pub enum Reading {
     Fold,
     Plain,

@@ -7,7 +7,7 @@ use crate::codes::{STAR, symbol_code};
 use crate::reading::{Reading, ignores_case};
 
 // The place in the table of the next symbol of a value, where the value ends, and how its bytes are read.
-#[derive(Drop)]
+#[derive(Clone, Copy)]
 pub struct Cursor {
     pub at: usize,
     pub end: usize,
@@ -16,7 +16,7 @@ pub struct Cursor {
 }
 
 // The code of the next symbol and the cursor behind it, or the end of the value.
-#[derive(Drop)]
+#[derive(Clone, Copy)]
 pub enum Next {
     Symbol(u64, Cursor),
     Done,

@@ -1,5 +1,8 @@
 // Holds values against strings and networks against addresses, as the lines of standard input ask for it. Each line is printed with
 // what came out.
+
+#![tactic(auto)]
+
 mod line;
 
 // The text of the cases, and room for the bytes of one line.

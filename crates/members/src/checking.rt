@@ -6,7 +6,7 @@ use crate::levels::after_token;
 use crate::state::{Level, State, Turn};
 use json_text::tokens::{Met, first_mark, next_token};
 
-#[derive(Drop)]
+#[derive(Clone, Copy)]
 pub enum Checked {
     Sound,
     // 21 or 22, and its place.

@@ -1,4 +1,7 @@
 // The members of a policy in the public JSON form: which names stand where, how often, and with what type of value (21, 22).
+
+#![tactic(auto)]
+
 pub mod checking;
 mod condition;
 mod document;

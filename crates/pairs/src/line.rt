@@ -8,7 +8,7 @@ use cases::text::{begins_with, behind_next, first_bytes, part_of, place_of};
 const TABLE_ROOM: usize = 20000;
 
 // The sizes of the two tables at hand.
-#[derive(Drop)]
+#[derive(Clone, Copy)]
 struct Sizes {
     first: usize,
     second: usize,

@@ -1,4 +1,7 @@
 // Reads a policy in the public JSON form from standard input, and writes its table to standard output, or the line of a refusal.
+
+#![tactic(auto)]
+
 mod lines;
 
 use crate::lines::{LINE, refusal_line};

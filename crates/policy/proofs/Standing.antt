@@ -11,7 +11,7 @@ use borrow.Author.Tests.{lt-ltb, leb-true, leb-false, ne_eqb, ltb-false}
 use Rattle.json_text.specs.Choice.{pick}
 use Rattle.stored.specs.Machine.{admit_item, due_of, start_turn, counted_state}
 use Rattle.stored.specs.Writing.{record_of, placing, writing, buffer_after, would_take, would_write}
-use Rattle.stored.specs.Entries.Entry.{start, network, value}
+use Rattle.stored.specs.Entries.Entry.{start, value}
 use Rattle.stored.specs.declared.items.Item.{Item}
 use Rattle.stored.specs.declared.items.Item.TheVariants as I
 use Rattle.stored.specs.declared.records.Kind.TheVariants as K

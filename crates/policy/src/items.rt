@@ -15,7 +15,7 @@ use stored::limits::{MOST_LENGTH, MOST_VALUES};
 use stored::machine::State;
 use stored::writer::{Would, WriteAnswer, Writer, would_write, write};
 
-#[derive(Drop)]
+#[derive(Clone, Copy)]
 pub enum Asked {
     // The item, and how many of the bytes beside it are its value's.
     Item(Item, usize),

@@ -6,33 +6,33 @@ ghost use Rattle.policy.specs.Machinery.NetworkTexts.{as_digit, longer_of, digit
 
 use json_text::pieces::{Piece, advance, piece_at};
 
-#[derive(Drop)]
+#[derive(Clone, Copy)]
 pub enum NetworkText {
     // The address, and the length.
     Network(u32, u8),
     None,
 }
 
-#[derive(Drop)]
+#[derive(Clone, Copy)]
 pub enum Digit {
     Is(u8),
     None,
 }
 
 // A decimal number so far: no digit yet, or its value.
-#[derive(Drop)]
+#[derive(Clone, Copy)]
 pub enum Number {
     Blank,
     Value(u8),
 }
 
-#[derive(Drop)]
+#[derive(Clone, Copy)]
 pub enum Longer {
     Goes(u8),
     Fails,
 }
 
-#[derive(Drop)]
+#[derive(Clone, Copy)]
 pub enum Part {
     // So many dots are still to come, and the address so far.
     Dotted(u8, u32),
@@ -40,7 +40,7 @@ pub enum Part {
     Length(u32),
 }
 
-#[derive(Drop)]
+#[derive(Clone, Copy)]
 pub enum Further {
     Goes(Part, Number),
     Fails,

@@ -12,7 +12,7 @@ use json_text::reader::{Fault, json_fault};
 use members::checking::{Checked, members_fault};
 use stored::limits::MOST_BYTES;
 
-#[derive(Drop)]
+#[derive(Clone, Copy)]
 pub enum JsonAnswer {
     // The bytes written.
     Written(usize),

@@ -8,7 +8,7 @@ use records::stages::Next;
 use stored::limits::MOST_BYTES;
 use stored::writer::{Would, begin};
 
-#[derive(Drop)]
+#[derive(Clone, Copy)]
 pub enum Dried {
     // The bytes that the records would take; over 16,384 it is not told how many.
     Fine(usize),

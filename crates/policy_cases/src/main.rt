@@ -1,5 +1,8 @@
 // Reads the policies of standard input, one a line, and prints for each its table or its refusal; then one policy into buffers that are
 // too short, just long enough, and longer.
+
+#![tactic(auto)]
+
 mod buffers;
 mod cases_of;
 mod printed;

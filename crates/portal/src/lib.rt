@@ -1,5 +1,8 @@
 // The entry points for C and Rust: numbers and byte slices in, one number out. They are thin: what they answer is judging's,
 // comparing's and policy's answer, coded as a number.
+
+#![tactic(auto)]
+
 ghost use Rattle.std.specs.Prelude.{◌≡◌, ◌<◌};
 ghost use Rattle.judging.specs.Requests.{request_of};
 ghost use Rattle.judging.specs.Judging.{judgement};

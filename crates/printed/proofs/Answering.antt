@@ -1,14 +1,13 @@
 -- What the reader of policies answers for printed tables, and that what it writes has its conditions by their operators.
 use Prim.Native.Nat.{ℕ, ◌≤◌}
-use mathlib.Core.Path.{◌≡◌, refl, sym, ◌∙◌, ap, subst}
+use mathlib.Core.Path.{◌≡◌, refl, sym, ◌∙◌, subst}
 use mathlib.Core.List.{List, [], ◌∷◌, ◌++◌}
 use lib.ListN.{length, take, drop}
 use native.Mathlib.Omega.{arith}
-use Rattle.json_text.specs.Grammar.{Text}
 use Rattle.json_text.specs.Trees.{Tree}
 use Rattle.json_text.specs.Trees.Shape.{one}
 use Rattle.json_text.proofs.Choosing.{never}
-use Rattle.members.specs.Members.Verdict.{fine, refused}
+use Rattle.members.specs.Members.Verdict.{fine}
 use Rattle.members.specs.Faults.{MemberFault, faults}
 use Rattle.members.specs.Machinery.Verdicts.{document}
 use Rattle.members.proofs.FirstFault.{first, first-fault, no-fault}
@@ -17,8 +16,7 @@ use Rattle.stored.specs.Reading.{reading}
 use Rattle.stored.specs.Entries.{Bytes}
 use Rattle.stored.specs.Tables.{Statement, rows_of}
 use Rattle.stored.specs.declared.reader.ReadAnswer.TheVariants as R
-use Rattle.records.specs.Documents.{statements_of}
-use Rattle.policy.specs.Answers.{document_of, table_for, JsonAnswered}
+use Rattle.policy.specs.Answers.{document_of, JsonAnswered}
 use Rattle.policy.specs.Answers.JsonAnswered.{no_text, wrong_member, wrong_record, too_long, no_room, written}
 use Rattle.policy.specs.declared.reader.JsonAnswer.{JsonAnswer}
 use Rattle.policy.specs.declared.reader.JsonAnswer.TheVariants as A

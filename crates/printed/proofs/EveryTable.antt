@@ -10,11 +10,10 @@ use Rattle.stored.specs.Operators.{row_of}
 use Rattle.stored.specs.Items.{key_sort}
 use Rattle.stored.specs.Machine.{fresh_state}
 use Rattle.stored.specs.Reading.{reading}
-use Rattle.stored.specs.Entries.{Entry, encode, Bytes, AllFit}
-use Rattle.stored.specs.Entries.Entry.{start, network, value, end}
+use Rattle.stored.specs.Entries.{encode, Bytes, AllFit}
 use Rattle.stored.specs.Machinery.Following.{Follows}
-use Rattle.stored.specs.Tables.{Listed, Element, Condition, Statement, rows_of}
-use Rattle.stored.specs.Form.{listed_for, elements_for, conditions_for, statements_for, entries_for, WellFormed, SoundStatement}
+use Rattle.stored.specs.Tables.{Condition, Statement, rows_of}
+use Rattle.stored.specs.Form.{statements_for, entries_for, WellFormed, SoundStatement}
 use Rattle.stored.specs.declared.items.Sort.{Sort}
 use Rattle.stored.specs.declared.items.Sort.TheVariants as S
 use Rattle.stored.specs.declared.reader.ReadAnswer.TheVariants as A

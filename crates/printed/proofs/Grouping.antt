@@ -28,7 +28,9 @@ joined_back o k (g ∷ gs) = by (is_of o g.operator) refl
     by : (b : Bool) → is_of o g.operator ≡ b
         → group_conditions (pick b (record { operator = o; keys = k ∷ g.keys } ∷ gs) (record { operator = o; keys = k ∷ [] } ∷ g ∷ gs))
         ≡ record { operator = o; key = k.key; values = k.values } ∷ group_conditions (g ∷ gs)
-    by true e = rw (same-operator o g.operator e)
+    by true e =
+        ap (λ (p : Operator). record { operator = o; key = k.key; values = k.values } ∷ keyed_conditions p g.keys (group_conditions gs))
+        (same-operator o g.operator e)
     by false e = refl
 
 pub groups-back : (cs : List Condition) → group_conditions (groups_of cs) ≡ cs

@@ -1,7 +1,7 @@
 -- Which tables JSON texts make, in statements that can be read without their proofs. `Grouped` says of a statement that the conditions of one
 -- operator stand together and no operator has a key twice.
 use Prim.Native.Nat.{ℕ, ◌≤◌}
-use mathlib.Core.Path.{◌≡◌, refl}
+use mathlib.Core.Path.{◌≡◌}
 use mathlib.Core.List.{List, ◌++◌}
 use lib.ListN.{length, take, drop}
 use Rattle.stored.specs.Choice.{In}

@@ -1,1 +1,3 @@
 // Statements printed as JSON texts: definitions and laws alone.
+
+#![tactic(auto)]

@@ -1,4 +1,7 @@
 // Lines laid out in a lent buffer: runs of bytes and numbers in decimal, one behind the other.
+
+#![tactic(auto)]
+
 ghost use Rattle.std.specs.Prelude.{◌≡◌, ◌++◌, ◌+◌, ◌≤◌, length};
 ghost use Rattle.printing.specs.Decimals.{decimal_of};
 ghost use Rattle.printing.specs.Laying.{Laid};

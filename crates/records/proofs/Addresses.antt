@@ -15,7 +15,7 @@ use Rattle.json_text.specs.Trees.Tree.{text, other, list, object, end_list, elem
 use Rattle.json_text.specs.Choice.{same_bytes}
 use Rattle.stored.specs.Operators.{row_of}
 use Rattle.stored.specs.Entries.{Entry, AllFit}
-use Rattle.stored.specs.Entries.Entry.{statement, network, value, end}
+use Rattle.stored.specs.Entries.Entry.{statement, end}
 use Rattle.stored.specs.declared.items.Effect.TheVariants as E
 use Rattle.stored.specs.declared.items.Operator.{Operator}
 use Rattle.stored.specs.declared.items.Sort.{Sort}

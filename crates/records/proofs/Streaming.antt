@@ -14,7 +14,7 @@ use Rattle.json_text.specs.Trees.Shape.{one, several, named}
 use Rattle.json_text.specs.Trees.Tree.{text, other, list, object, end_list, element, end_object, member}
 use Rattle.json_text.specs.Machinery.Tokens.{Token, flat}
 use Rattle.stored.specs.Operators.{row_of}
-use Rattle.stored.specs.Entries.Entry.{start, statement, condition, value, end}
+use Rattle.stored.specs.Entries.Entry.{start, condition, end}
 use Rattle.stored.specs.declared.items.Operator.{Operator}
 use Rattle.stored.specs.declared.items.Key.{Key}
 use Rattle.stored.specs.declared.items.Sort.{Sort}

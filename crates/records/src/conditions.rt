@@ -14,7 +14,7 @@ use stored::items::{Key, Operator};
 
 // Where the reading of conditions stands: before the value of Condition; among its operators, behind an operator's name, among its keys,
 // behind a key's name; before the value of a condition that was wished for; in its list, empty since a place, or not.
-#[derive(Drop)]
+#[derive(Clone, Copy)]
 pub enum Spot {
     Before,
     Operators,
@@ -26,7 +26,7 @@ pub enum Spot {
     FilledList(Operator),
 }
 
-#[derive(Drop)]
+#[derive(Clone, Copy)]
 pub enum Turned {
     On(Spot),
     // A condition, wished for before its value is read.
@@ -38,7 +38,7 @@ pub enum Turned {
     Gone,
 }
 
-#[derive(Drop)]
+#[derive(Clone, Copy)]
 pub enum Said {
     // A wish, its place, and where to go on.
     Wish(Wish, usize, Mark, Spot),

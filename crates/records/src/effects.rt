@@ -15,7 +15,7 @@ use json_text::tokens::{Mark, Met, next_token};
 use stored::items::Effect;
 
 // A wish, and the place of the value that it comes from.
-#[derive(Drop)]
+#[derive(Clone, Copy)]
 pub struct Placed {
     pub wish: Wish,
     pub place: usize,

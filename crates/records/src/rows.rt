@@ -9,14 +9,14 @@ use json_text::events::Event;
 use json_text::tokens::{Mark, Met, next_token};
 
 // Before the value of Statement; between the statements of its list; so many brackets inside one of them.
-#[derive(Drop)]
+#[derive(Clone, Copy)]
 pub enum Among {
     Begin,
     Between,
     Within(usize),
 }
 
-#[derive(Drop)]
+#[derive(Clone, Copy)]
 pub enum Sight {
     On(Among),
     // A statement begins; whether it stands in a list.
@@ -24,7 +24,7 @@ pub enum Sight {
     Gone,
 }
 
-#[derive(Drop)]
+#[derive(Clone, Copy)]
 pub enum Row {
     // The place behind the statement's brace; whether it stands in a list.
     Found(Mark, bool),

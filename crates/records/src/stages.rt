@@ -5,7 +5,7 @@ use crate::wishes::Wish;
 use json_text::tokens::Mark;
 
 // What a statement has behind its effect.
-#[derive(Drop)]
+#[derive(Clone, Copy)]
 pub enum Part {
     Principal,
     Action,
@@ -13,7 +13,7 @@ pub enum Part {
     Conditions,
 }
 
-#[derive(Drop)]
+#[derive(Clone, Copy)]
 pub enum Stage {
     // Before the document.
     Begin,
@@ -30,7 +30,7 @@ pub enum Stage {
 }
 
 // The stage; the place in the value being read; the statement's members, and whether the statement stands in a list.
-#[derive(Drop)]
+#[derive(Clone, Copy)]
 pub struct Cursor {
     pub stage: Stage,
     pub here: Mark,
@@ -38,7 +38,7 @@ pub struct Cursor {
     pub listed: bool,
 }
 
-#[derive(Drop)]
+#[derive(Clone, Copy)]
 pub enum Next {
     // A wish, the place of the value that it comes from, and where to go on.
     Wish(Wish, usize, Cursor),

@@ -10,14 +10,14 @@ use json_text::events::Event;
 use json_text::tokens::{Mark, Met, next_token};
 
 // No list is open; one that began at a place is still empty; one has a string.
-#[derive(Drop)]
+#[derive(Clone, Copy)]
 pub enum Hold {
     Outside,
     Fresh(usize),
     Filled,
 }
 
-#[derive(Drop)]
+#[derive(Clone, Copy)]
 pub enum Heard {
     On(Hold),
     // A string, alone or in a list.
@@ -28,7 +28,7 @@ pub enum Heard {
     Gone,
 }
 
-#[derive(Drop)]
+#[derive(Clone, Copy)]
 pub enum Strings {
     // The place of a string in a list, and where to go on.
     Listed(usize, Mark),

@@ -12,20 +12,20 @@ use members::marks::row_slot;
 use members::names::{row_kind, top_kind};
 
 // The object whose members are sought.
-#[derive(Drop)]
+#[derive(Clone, Copy)]
 pub enum Table {
     Top,
     Row,
 }
 
-#[derive(Drop)]
+#[derive(Clone, Copy)]
 pub enum Sought {
     None,
     // The member's kind, and the place behind its name's first byte.
     Found(u8, Mark),
 }
 
-#[derive(Drop)]
+#[derive(Clone, Copy)]
 pub enum Moved {
     // So many brackets inside the object.
     On(usize),

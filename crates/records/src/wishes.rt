@@ -7,7 +7,7 @@ ghost use Rattle.records.specs.Machinery.Cursors.{string_kind};
 use stored::items::{Column, Effect, Key, Operator, Sort};
 use stored::operators::operator_row;
 
-#[derive(Drop)]
+#[derive(Clone, Copy)]
 pub enum Wish {
     // The number of statements.
     Start(usize),

@@ -2,14 +2,14 @@
 ghost use Rattle.std.specs.Prelude.{◌≡◌};
 ghost use Rattle.stored.specs.Items.{effect_code, column_code, column_place, column_negated, key_code, key_of, key_sort};
 
-#[derive(Drop)]
+#[derive(Clone, Copy)]
 pub enum Effect {
     Deny,
     Allow,
 }
 
 // The three elements of a statement, and their Not-forms.
-#[derive(Drop)]
+#[derive(Clone, Copy)]
 pub enum Column {
     Principal,
     Action,
@@ -20,7 +20,7 @@ pub enum Column {
 }
 
 // The six operators, and their IfExists forms.
-#[derive(Drop)]
+#[derive(Clone, Copy)]
 pub enum Operator {
     StringEquals,
     StringNotEquals,
@@ -36,7 +36,7 @@ pub enum Operator {
     NotIpAddressIfExists,
 }
 
-#[derive(Drop)]
+#[derive(Clone, Copy)]
 pub enum Key {
     SourceVpc,
     Prefix,
@@ -46,14 +46,14 @@ pub enum Key {
 }
 
 // What a key holds, and what a list of a condition on it is made of: values or networks.
-#[derive(Drop)]
+#[derive(Clone, Copy)]
 pub enum Sort {
     Text,
     Address,
 }
 
 // What a record says. The bytes of a value stand beside its item.
-#[derive(Drop)]
+#[derive(Clone, Copy)]
 pub enum Item {
     // The number of statements.
     Start(u8),
@@ -66,7 +66,7 @@ pub enum Item {
     End,
 }
 
-#[derive(Drop)]
+#[derive(Clone, Copy)]
 pub enum FoundKey {
     Known(Key),
     Unknown,

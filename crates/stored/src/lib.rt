@@ -1,5 +1,8 @@
 // The stored form of an access table: its items, its records, the one state machine that says which record may come next,
 // the reader, the writer, and the record at a place for those who walk a table.
+
+#![tactic(auto)]
+
 pub mod items;
 pub mod limits;
 pub mod machine;

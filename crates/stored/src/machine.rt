@@ -10,7 +10,7 @@ use crate::records::Kind;
 use crate::taking::take_turn;
 
 // What was read last.
-#[derive(Drop)]
+#[derive(Clone, Copy)]
 pub enum Phase {
     Fresh,
     // The number of statements.
@@ -24,7 +24,7 @@ pub enum Phase {
     Ended,
 }
 
-#[derive(Drop)]
+#[derive(Clone, Copy)]
 pub struct State {
     pub phase: Phase,
     // Statements announced, and those still to come.
@@ -39,7 +39,7 @@ pub struct State {
     pub sort: Sort,
 }
 
-#[derive(Drop)]
+#[derive(Clone, Copy)]
 pub enum Turn {
     Next(State),
     Refused(u8),

@@ -5,7 +5,7 @@ ghost use Rattle.stored.specs.Machinery.OperatorTable.{row_place};
 
 use crate::items::{Operator, Sort};
 
-#[derive(Drop)]
+#[derive(Clone, Copy)]
 pub struct OperatorRow {
     pub code: u8,
     pub operator: Operator,
@@ -19,7 +19,7 @@ pub struct OperatorRow {
     pub absent: bool,
 }
 
-#[derive(Drop)]
+#[derive(Clone, Copy)]
 pub enum FoundOperator {
     Known(Operator),
     Unknown,

@@ -9,7 +9,7 @@ use crate::records::{Record, byte_at, kind_of, record_at};
 use crate::taking::take_turn;
 
 // What reading a table finds.
-#[derive(Drop)]
+#[derive(Clone, Copy)]
 pub enum ReadAnswer {
     // The number of statements.
     Accepted(u8),
@@ -18,7 +18,7 @@ pub enum ReadAnswer {
 }
 
 // What one record leads to.
-#[derive(Drop)]
+#[derive(Clone, Copy)]
 pub enum Step {
     // The next state, and the next place.
     Goes(State, usize),

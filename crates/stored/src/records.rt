@@ -5,7 +5,7 @@ ghost use Rattle.stored.specs.Records.{kind_of, size_of, statement_of, column_of
 use crate::items::{Column, Effect, FoundKey, Item, key_of};
 use crate::operators::{FoundOperator, operator_of};
 
-#[derive(Drop)]
+#[derive(Clone, Copy)]
 pub enum Kind {
     Start,
     Statement,
@@ -19,7 +19,7 @@ pub enum Kind {
 }
 
 // What a body says.
-#[derive(Drop)]
+#[derive(Clone, Copy)]
 pub enum Decoded {
     Known(Item),
     Strange,
@@ -27,7 +27,7 @@ pub enum Decoded {
 
 // The record at a place: its item, where its body starts and how long that is (the next record is behind it); or the bytes end
 // inside it or before it; or its kind or one of its codes is unknown.
-#[derive(Drop)]
+#[derive(Clone, Copy)]
 pub enum Record {
     Is(Item, usize, usize),
     Cut,

@@ -10,13 +10,13 @@ use crate::machine::{State, Turn, admit, fresh};
 use crate::operators::operator_row;
 
 // A writer between two items: the state machine's state, and the bytes written so far.
-#[derive(Drop)]
+#[derive(Clone, Copy)]
 pub struct Writer {
     pub state: State,
     pub at: usize,
 }
 
-#[derive(Drop)]
+#[derive(Clone, Copy)]
 pub enum WriteAnswer {
     Added(Writer),
     // The number of the refusal, and its place.
@@ -24,7 +24,7 @@ pub enum WriteAnswer {
 }
 
 // What a writer would answer without a buffer.
-#[derive(Drop)]
+#[derive(Clone, Copy)]
 pub enum Would {
     // The next state, and the length of the record.
     Takes(State, usize),

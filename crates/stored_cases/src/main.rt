@@ -1,5 +1,8 @@
 // Runs the reader and the writer of stored tables on the cases of standard input, and then the writer on items that no byte
 // string can show. One line for each case says what came out.
+
+#![tactic(auto)]
+
 mod alone;
 mod tables;
 mod walk;

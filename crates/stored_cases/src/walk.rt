@@ -2,7 +2,7 @@
 use stored::records::{Record, byte_at, record_at};
 use stored::writer::{WriteAnswer, begin, write};
 
-#[derive(Drop)]
+#[derive(Clone, Copy)]
 pub enum Walked {
     // All records were written, so many bytes.
     Written(usize),

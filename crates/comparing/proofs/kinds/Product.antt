@@ -26,6 +26,7 @@ use Rattle.comparing.proofs.Alike.{each-length, alike-first, alike-second}
 
 in-front : (values : List Value) (requests : List (List Value)) (r : List Value) → In r (in_front values requests)
     → (v : Value) × (s : List Value) × In v values × In s requests × (r ≡ v ∷ s)
+in-front [] requests r i = elim i [ ]
 in-front (v ∷ values) requests r i = by (in-joined r (map (λ (s : List Value). v ∷ s) requests) (in_front values requests) i) (in-front values requests r)
   where
     by : In r (map (λ (s : List Value). v ∷ s) requests) ⊎ In r (in_front values requests)
@@ -36,6 +37,7 @@ in-front (v ∷ values) requests r i = by (in-joined r (map (λ (s : List Value)
 
 pub front-in : (values : List Value) (requests : List (List Value)) (v : Value) (s : List Value)
     → In v values → In s requests → In (v ∷ s) (in_front values requests)
+front-in [] requests v s x'' j = elim x'' [ ]
 front-in (w ∷ values) requests v s (inl e) j =
     in_left (v ∷ s) (map (λ (r : List Value). w ∷ r) requests) (in_front values requests)
     (subst (λ (x : Value). In (x ∷ s) (map (λ (r : List Value). w ∷ r) requests)) (sym e) (mapped_in (λ (r : List Value). w ∷ r) s requests j))

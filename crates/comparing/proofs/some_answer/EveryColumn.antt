@@ -96,6 +96,7 @@ bound [] = 0
 bound (u ∷ list) = suc (length u) + bound list
 
 in-bound : (list : List (List ℕ)) (s : List ℕ) → In s list → length s < bound list
+in-bound [] s x' = elim x' [ ]
 in-bound (u ∷ list) s (inl e) = omega (arith, ap length e)
 in-bound (u ∷ list) s (inr i) = omega (arith, in-bound list s i)
 

@@ -68,10 +68,12 @@ module _ {A : Type 0} (f : A → List Bool) where
 
   -- they are in the list, each of the list is like one of them, and they keep its order
   pub each_in : (l : List A) (x : A) → In x (one_of_each l) → In x l
+  each_in [] x x3 = elim x3 [ ]
   each_in (y ∷ l) x (inl e) = inl e
   each_in (y ∷ l) x (inr i) = inr (each_in l x (in_kept (tells y) x (one_of_each l) i).0)
 
   pub each_like : (l : List A) (x : A) → In x l → Like (one_of_each l) x
+  each_like [] x x3 = elim x3 [ ]
   each_like (y ∷ l) x (inl e) = (y, inl refl, ap f e)
   each_like (y ∷ l) x (inr i) = let (z, j, same) = each_like l x i in by z j same (tells y z) refl
     where
@@ -90,6 +92,7 @@ module _ {A : Type 0} (f : A → List Bool) where
     -- none in the list that is like one of them comes before it
     pub each_first : ((x y : A) → P x y → P y x → ⊥) → (l : List A) → Ascending P l
         → (x y : A) → In x (one_of_each l) → In y l → f y ≡ f x → P y x → ⊥
+    each_first asym [] up x y x7 _ same less = elim x7 [ ]
     each_first asym (z ∷ l) up x y (inl e) (inl i) same less =
         let less : P x x = subst (λ (w : A). P w x) (i ∙ sym e) less in asym x x less less
     each_first asym (z ∷ l) up x y (inl e) (inr i) same less = asym z y (up.0 y i) (subst (λ (w : A). P y w) e less)

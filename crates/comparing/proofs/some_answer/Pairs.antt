@@ -12,6 +12,7 @@ module _ {A B C : Type 0} (op : A → B → C) where
 
   -- what is in it
   pub in_pairs : (xs : List A) (ys : List B) (z : C) → In z (pairs xs ys) → (x : A) × (y : B) × In x xs × In y ys × (z ≡ op x y)
+  in_pairs [] ys z i = elim i [ ]
   in_pairs (x ∷ xs) ys z i = by (in-joined z (map (op x) ys) (pairs xs ys) i) (in_pairs xs ys z)
     where
       by : In z (map (op x) ys) ⊎ In z (pairs xs ys) → (In z (pairs xs ys) → (w : A) × (y : B) × In w xs × In y ys × (z ≡ op w y))
@@ -20,6 +21,7 @@ module _ {A B C : Type 0} (op : A → B → C) where
       by (inr j) more = let (w, y, k, l, e) = more j in (w, y, inr k, l, e)
 
   pub pairs-in : (xs : List A) (ys : List B) (x : A) (y : B) → In x xs → In y ys → In (op x y) (pairs xs ys)
+  pairs-in [] ys x y x4 j = elim x4 [ ]
   pairs-in (w ∷ xs) ys x y (inl e) j =
       in_left (op x y) (map (op w) ys) (pairs xs ys) (subst (λ (v : A). In (op v y) (map (op w) ys)) (sym e) (mapped_in (op w) y ys j))
   pairs-in (w ∷ xs) ys x y (inr i) j = in_right (op x y) (map (op w) ys) (pairs xs ys) (pairs-in xs ys x y i j)

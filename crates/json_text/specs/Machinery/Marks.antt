@@ -1,5 +1,5 @@
 -- The tokens of a text from a place on.
-use Rattle.std.specs.Prelude.{ℕ, ◌+◌, ◌-◌, ◌≤◌, ◌<◌, Bool, true, false, ◌≡◌, List, [], ◌∷◌, length, drop}
+use Rattle.std.specs.Prelude.{ℕ, ◌+◌, ◌-◌, ◌≤◌, ◌<◌, Bool, true, false, ◌≡◌, List, [], length, drop}
 use Rattle.json_text.specs.Machinery.Tokens.{Token, mark, tokens_from}
 use Rattle.json_text.specs.declared.events.Event.{Event}
 use Rattle.json_text.specs.declared.events.Event.TheVariants as E

@@ -1,5 +1,5 @@
 -- The verdict on a document: the first of its faults, as one walk over the tree meets it, with the members met as the bits of a number.
-use Rattle.std.specs.Prelude.{ℕ, ◌*◌, ◌/◌, ◌%◌, ◌^◌, Bool, true, ◌&&◌, ◌||◌, List, eqb, leb}
+use Rattle.std.specs.Prelude.{ℕ, ◌/◌, ◌%◌, ◌^◌, Bool, true, ◌&&◌, ◌||◌, List, eqb, leb}
 use Rattle.std.specs.Int.Bits.{bit_or}
 use Rattle.json_text.specs.Choice.{pick, same_bytes}
 use Rattle.json_text.specs.Texts.{ascii}

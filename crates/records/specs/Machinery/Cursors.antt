@@ -7,7 +7,7 @@ use Rattle.json_text.specs.Machinery.Marks.{start_mark, tokens_at}
 use Rattle.json_text.specs.declared.tokens.Mark.{Mark}
 use Rattle.json_text.specs.declared.events.Event.{Event}
 use Rattle.json_text.specs.declared.events.Event.TheVariants as E
-use Rattle.stored.specs.Entries.Entry.{start, statement, column, condition, value, end}
+use Rattle.stored.specs.Entries.Entry.{start, statement, column, condition, end}
 use Rattle.stored.specs.declared.items.Effect.TheVariants as Ef
 use Rattle.stored.specs.declared.items.Sort.{Sort}
 use Rattle.stored.specs.declared.items.Sort.TheVariants as So

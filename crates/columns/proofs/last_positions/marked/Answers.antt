@@ -1,0 +1,20 @@
+-- A row of eight words has no word for a position of 512 or more.
+use mathlib.Core.Path.{sym}
+use Prim.Native.Nat.{◌/◌, ◌%◌, ◌^◌, ◌≤◌}
+use native.Mathlib.Omega.{arith}
+use lib.ListN.{length, get_or}
+use lib.Bits.{bit_or}
+use lib.Seq.{set_out}
+use Rattle.matching.specs.Machinery.Rows.{mark_row}
+use borrow.Author.Rules.{rules}
+use Rattle.columns.proofs.last_positions.marked.Goals as goal
+
+pub returns-then-p-ge-POSITIONS : goal.returns-then-p-ge-POSITIONS
+unfolding mark_row
+returns-then-p-ge-POSITIONS c =
+    let a = c.args in
+    let past : length a.row ≤ a.p / 64 = omega (arith, c.well_formed.0.1.0.1, c.if-p-ge-POSITIONS.true) in
+    sym (set_out a.row (a.p / 64) (bit_or (get_or a.row (a.p / 64) 0) (2 ^ (a.p % 64))) past)
+
+pub returns : goal.returns
+returns c = c.mark.ensures

@@ -1,0 +1,29 @@
+-- What the reader says of each table decides first.
+use mathlib.Core.Path.{refl, sym, ◌∙◌}
+use Rattle.judging.specs.Requests.{number}
+use Rattle.comparing.specs.Compared.{IsCount}
+use Rattle.comparing.specs.declared.answers.Counting.TheVariants as C
+use Rattle.comparing.proofs.compare.BothRead.{both_read}
+use Rattle.comparing.proofs.compare.Answering.{answer-first, answer-second, answer-both}
+use borrow.Author.Rules.{rules}
+use Rattle.comparing.proofs.compare.count_tables.Goals as goal
+
+pub count_read-requires : goal.count_read-requires
+count_read-requires c =
+    let a = c.args in
+    (both_read a.first.now a.second.now c.in-Accepted.rows c.in-Accepted-read.field-0 (sym c.read.ensures ∙ c.in-Accepted.is) (sym c.read-in-Accepted.ensures ∙ c.in-Accepted-read.is), c.requires)
+
+pub returns-in-Refused : goal.returns-in-Refused
+returns-in-Refused c =
+    let a = c.args in
+    answer-first C.Refused IsCount a.first.now a.second.now _ c.in-Refused.number c.in-Refused.place (sym c.read.ensures ∙ c.in-Refused.is) refl
+
+pub returns-in-Refused-read : goal.returns-in-Refused-read
+returns-in-Refused-read c =
+    let a = c.args in
+    answer-second C.Refused IsCount a.first.now a.second.now _ c.in-Accepted.rows c.in-Refused-read.number c.in-Refused-read.place (sym c.read.ensures ∙ c.in-Accepted.is) (sym c.read-in-Accepted.ensures ∙ c.in-Refused-read.is) refl
+
+pub returns-in-Accepted-read : goal.returns-in-Accepted-read
+returns-in-Accepted-read c =
+    let a = c.args in
+    answer-both C.Refused IsCount a.first.now a.second.now _ c.in-Accepted.rows c.in-Accepted-read.field-0 (sym c.read.ensures ∙ c.in-Accepted.is) (sym c.read-in-Accepted.ensures ∙ c.in-Accepted-read.is) c.count_read.ensures

@@ -1,0 +1,16 @@
+-- From the last column down: the rows that all footprints from a column on have are those of the columns behind it that its own have too.
+use Prim.Native.Nat.{ℕ, ◌+◌, ◌-◌, ◌^◌, ◌≤◌, ◌<◌}
+use mathlib.Core.Path.{◌≡◌, refl, sym, ap, ◌∙◌}
+use native.Mathlib.Omega.{arith}
+use lib.ListN.{get_or}
+use Rattle.comparing.specs.Machinery.Kinds.{prints_between, prints_in, meet_all, meet_of}
+use Rattle.comparing.proofs.kinds.Settling.{nine_of, RightFrom, right-last, right-more, meets-step}
+use Rattle.comparing.proofs.kinds.KindsInWords.{up, next-within}
+use borrow.Author.Rules.{rules}
+use Rattle.comparing.proofs.kinds.meets_of.Given as goal
+
+abbrev pub invariant-loop-behind : goal.invariant-loop-behind
+invariant-loop-behind l = (l.behind ≤ 8) × RightFrom (λ c. meet_of (prints_in l.words l.bounds c)) l.meets l.behind
+
+abbrev pub decreases-loop-behind : goal.decreases-loop-behind
+decreases-loop-behind l = l.behind

@@ -1,0 +1,35 @@
+-- The footprints of the rows before the one at hand were added: that is the invariant. A row's footprint is that of its string, which has the row.
+use Prim.Native.Nat.{ℕ, ◌+◌, ◌-◌, ◌≤◌, ◌<◌}
+use mathlib.Core.Path.{◌≡◌, refl, sym, ap, ◌∙◌}
+use mathlib.Core.Bool.{Bool}
+use mathlib.Core.List.{List, ◌++◌, map}
+use native.Mathlib.Omega.{arith}
+use lib.ListN.{length, take}
+use borrow.Author.Tests.{ne_eqb}
+use Rattle.stored.specs.Choice.{pick}
+use Rattle.matching.specs.Machinery.Codes.{codes_of}
+use Rattle.judging.specs.Requests.{absent, text}
+use Rattle.judging.specs.Judging.{rows_of}
+use Rattle.states.specs.Machinery.Rows.{prints_at, most_states, codes_at}
+use Rattle.states.specs.Machinery.Search.{string_of}
+use Rattle.states.proofs.Parts.{front_kept}
+use Rattle.columns.specs.Values.{values_in}
+use Rattle.columns.proofs.PlansLaid.{prepared-stays}
+use Rattle.comparing.specs.Machinery.Product.{print_of}
+use Rattle.comparing.specs.Machinery.Adding.{adding_rows}
+use Rattle.comparing.specs.Machinery.Survey.{prints_between, print_at}
+use Rattle.comparing.proofs.survey.AddingPrints.{row-added}
+use Rattle.comparing.proofs.survey.StatesKept.{row_stays}
+use Rattle.comparing.proofs.survey.Exploring.{string-reaches}
+use Rattle.comparing.proofs.survey.gather_rows.Given as goal
+
+abbrev pub invariant-loop-i : goal.invariant-loop-i
+invariant-loop-i l =
+    (l.row ≤ l.i) × (l.i ≤ l.states) × (l.start ≤ l.to) × (l.to ≤ l.start + (l.i - l.row)) × (length l.words ≡ length l.initial.words)
+    × (take (prints_at + l.start) l.words ≡ take (prints_at + l.start) l.initial.words)
+    × ((found : List ℕ) → prints_between l.initial.words l.from l.start ≡ map (print_at (rows_of l.first) (rows_of l.second) l.column l.initial.words) found
+    → prints_between l.words l.from l.to
+    ≡ map (print_at (rows_of l.first) (rows_of l.second) l.column l.initial.words) (adding_rows (print_at (rows_of l.first) (rows_of l.second) l.column l.initial.words) found l.row (l.i - l.row)))
+
+abbrev pub decreases-loop-i : goal.decreases-loop-i
+decreases-loop-i l = l.states - l.i

@@ -1,0 +1,87 @@
+-- Column 7 goes by edges; another column by its states, if there are few of them.
+use Prim.Native.Nat.{ℕ, ◌<◌}
+use mathlib.Core.Path.{◌≡◌, sym, ◌∙◌, subst}
+use mathlib.Core.Bool.{true}
+use native.Mathlib.Omega.{arith}
+use Rattle.judging.specs.Judging.{rows_of}
+use Rattle.columns.specs.Machinery.Plan.{HasPlans}
+use Rattle.columns.proofs.PlansLaid.{texts-fit, addresses-fit}
+use Rattle.columns.proofs.Widths.{sum_both}
+use Rattle.comparing.specs.Machinery.Survey.{Gathered}
+use Rattle.comparing.proofs.survey.ColumnSurveyed.{found-states, found-few, found-many, gathered-behind}
+use Rattle.comparing.proofs.survey.StatesKept.{states-kept}
+use Rattle.comparing.proofs.survey.survey_column.Goals as goal
+
+pub lay_plans-networks-requires : goal.lay_plans-networks-requires
+lay_plans-networks-requires c =
+    let a = c.args in
+    (addresses-fit a.first.now a.second.now c.requires.0.one c.requires.0.two c.requires.0.few c.requires.0.more c.requires.1.networks, omega arith, omega (arith, c.requires.1.room))
+
+pub gather_addresses-requires : goal.gather_addresses-requires
+gather_addresses-requires c =
+    let laid = c.lay_plans-networks.ensures in
+    (c.requires.0, c.requires.1.networks, record { low = c.requires.3; room = omega (arith, c.requires.1.room, laid.same) }, laid.has)
+
+pub shape_of-words-then-column-eq-ADDRESSES : goal.shape_of-words-then-column-eq-ADDRESSES
+shape_of-words-then-column-eq-ADDRESSES c = c.gather_addresses.ensures.same ∙ c.lay_plans-networks.ensures.same
+
+pub returns-then-column-eq-ADDRESSES : goal.returns-then-column-eq-ADDRESSES
+returns-then-column-eq-ADDRESSES c =
+    let a = c.args in
+    let seven : a.column ≡ 7 = c.if-column-eq-ADDRESSES.true in (
+      (λ low. absurd (omega arith)),
+      subst (λ (column : ℕ). Gathered (rows_of a.first.now) (rows_of a.second.now) column a.words.now c.gather_addresses.new.words a.from c.gather_addresses.result)
+          (sym seven)
+          (gathered-behind (rows_of a.first.now) (rows_of a.second.now) 7 a.words.now c.lay_plans-networks.new.words c.gather_addresses.new.words a.from c.gather_addresses.result c.lay_plans-networks.ensures.kept c.lay_plans-networks.ensures.same c.gather_addresses.ensures),
+    )
+
+pub states_of-found-requires : goal.states_of-found-requires
+states_of-found-requires c =
+    let a = c.args in
+    (c.requires.0.one, c.requires.0.two, c.requires.1.narrow a.column (omega arith), omega (arith, c.requires.1.room))
+
+pub shape_of-words-then-found-gt-MOST_STATES : goal.shape_of-words-then-found-gt-MOST_STATES
+shape_of-words-then-found-gt-MOST_STATES c = c.states_of-found.ensures.same
+
+pub returns-then-found-gt-MOST_STATES : goal.returns-then-found-gt-MOST_STATES
+returns-then-found-gt-MOST_STATES c =
+    let a = c.args in
+    let low : a.column < 7 = omega arith in
+    (low, found-many (rows_of a.first.now) (rows_of a.second.now) a.column a.words.now c.states_of-found.new.words c.states_of-found.result c.states_of-found.ensures (c.requires.1.narrow a.column low) c.if-found-gt-MOST_STATES.true, c.states_of-found.ensures.same)
+
+pub lay_plans-plans-requires : goal.lay_plans-plans-requires
+lay_plans-plans-requires c =
+    let a = c.args in
+    let found = c.states_of-found.ensures in
+    let narrow = c.requires.1.narrow a.column (omega arith) in (
+      texts-fit a.first.now a.second.now c.requires.0.one c.requires.0.two c.requires.0.few c.requires.0.more a.column _ narrow,
+      omega (arith, narrow, found.mine, sum_both a.column (rows_of a.first.now) (rows_of a.second.now)),
+      omega (arith, c.requires.1.room, found.same),
+    )
+
+pub gather_texts-requires : goal.gather_texts-requires
+gather_texts-requires c =
+    let a = c.args in
+    let low : a.column < 7 = omega arith in (
+      c.requires.0,
+      states-kept (rows_of a.first.now) (rows_of a.second.now) a.column c.states_of-found.new.words c.lay_plans-plans.new.words c.states_of-found.result.states c.lay_plans-plans.ensures.front
+          (found-states (rows_of a.first.now) (rows_of a.second.now) a.column a.words.now c.states_of-found.new.words c.states_of-found.result c.states_of-found.ensures (c.requires.1.narrow a.column low) (omega arith)),
+      c.states_of-found.ensures.all,
+      low,
+      record { low = c.requires.3; room = omega (arith, c.requires.1.room, c.states_of-found.ensures.same, c.lay_plans-plans.ensures.same) },
+      subst (λ (n : ℕ). HasPlans a.first.now a.second.now a.column true n c.lay_plans-plans.new.words c.lay_plans-plans.result) c.states_of-found.ensures.mine c.lay_plans-plans.ensures.has,
+    )
+
+pub shape_of-words : goal.shape_of-words
+shape_of-words c =
+    c.gather_texts.ensures.same
+    ∙ c.lay_plans-plans.ensures.same
+    ∙ c.states_of-found.ensures.same
+
+pub returns : goal.returns
+returns c =
+    let a = c.args in
+    let low : a.column < 7 = omega (arith, c.requires.2, c.if-column-eq-ADDRESSES.false) in (
+      (λ under. found-few (rows_of a.first.now) (rows_of a.second.now) a.column a.words.now c.states_of-found.new.words c.states_of-found.result c.states_of-found.ensures (c.requires.1.narrow a.column low) (omega (arith, c.if-found-gt-MOST_STATES.false))),
+      gathered-behind (rows_of a.first.now) (rows_of a.second.now) a.column a.words.now c.lay_plans-plans.new.words c.gather_texts.new.words a.from c.gather_texts.result (c.lay_plans-plans.ensures.kept ∙ c.states_of-found.ensures.kept) (c.lay_plans-plans.ensures.same ∙ c.states_of-found.ensures.same) c.gather_texts.ensures,
+    )

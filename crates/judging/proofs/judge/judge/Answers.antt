@@ -1,0 +1,24 @@
+-- What the reader answers decides first; a table that reads has at most 32 rows, so that a word holds them.
+use borrow.Author.Rules.{rules}
+use mathlib.Core.Path.{sym, ◌∙◌}
+use native.Mathlib.Omega.{arith}
+use Rattle.stored.proofs.Accepting.{few}
+use Rattle.judging.specs.Requests.{request_of}
+use Rattle.judging.proofs.Refusing.{table-refused, table-reads}
+use Rattle.judging.proofs.judge.judge.Goals as goal
+
+pub judge_request-requires : goal.judge_request-requires
+judge_request-requires c =
+    let low = few c.args.table.now c.in-Accepted.field-0 (sym c.read.ensures ∙ c.in-Accepted.is) in
+    omega arith
+
+pub returns-in-Accepted : goal.returns-in-Accepted
+returns-in-Accepted c =
+    let given = c.args in
+    c.judge_request.ensures
+    ∙ table-reads given.table.now (request_of given.principal.now given.action.now given.resource.now given.present given.vpc.now given.prefix.now given.vpce.now given.referer.now given.address) c.in-Accepted.field-0 (sym c.read.ensures ∙ c.in-Accepted.is)
+
+pub returns-in-Refused : goal.returns-in-Refused
+returns-in-Refused c =
+    let given = c.args in
+    table-refused given.table.now (request_of given.principal.now given.action.now given.resource.now given.present given.vpc.now given.prefix.now given.vpce.now given.referer.now given.address) c.in-Refused.number c.in-Refused.place (sym c.read.ensures ∙ c.in-Refused.is)

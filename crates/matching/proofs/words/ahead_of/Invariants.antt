@@ -1,0 +1,18 @@
+-- The row so far has the positions behind those of the words before i, and the word before brings the bit in front of it.
+use Rattle.std.proofs.Common.{◌≡◌, ℕ, ◌+◌, ◌-◌, ◌*◌, ◌≤◌, Bool, false, List, set, refl, ap, ◌∙◌, arith, rules}
+use Rattle.matching.specs.Machinery.Rows.{word_bit, row_bit, pack_word, pack}
+use Rattle.matching.specs.Machinery.Words.{moved_up, ahead_row}
+use Rattle.matching.proofs.Rows.{upto}
+use Rattle.matching.proofs.MarkedRows.{none-marked, all-marked, lay-more, row-carry}
+use Rattle.matching.proofs.AlikeBytes.{word-ahead}
+use Rattle.matching.proofs.words.ahead_of.Given as goal
+
+abbrev pub behind : List ℕ → ℕ → Bool
+behind row = moved_up (row_bit row) false
+
+abbrev pub invariant-loop-i : goal.invariant-loop-i
+invariant-loop-i l =
+    (l.i ≤ 8) × (l.ahead ≡ pack 8 (upto (64 * l.i) (behind l.row))) × (word_bit l.before 63 ≡ behind l.row (64 * l.i))
+
+abbrev pub decreases-loop-i : goal.decreases-loop-i
+decreases-loop-i l = 8 - l.i

@@ -1,0 +1,26 @@
+-- `members::statement::in_row` meets its contract: the arms are those of `in_row`.
+use Rattle.members.proofs.statement.in_row.Goals as goal
+
+pub returns-in-Nothing : goal.returns-in-Nothing
+returns-in-Nothing c = simp c.in-Nothing.is
+
+pub returns-in-Name : goal.returns-in-Name
+returns-in-Name c = simp (c.in-Name.is, c.row_name.ensures)
+
+pub returns-in-Text : goal.returns-in-Text
+returns-in-Text c = simp (c.in-Text.is, c.row_text.ensures)
+
+pub returns-in-Other : goal.returns-in-Other
+returns-in-Other c = simp c.in-Other.is
+
+pub returns-in-OpenList : goal.returns-in-OpenList
+returns-in-OpenList c = simp (c.in-OpenList.is, c.row_list.ensures)
+
+pub returns-in-CloseList : goal.returns-in-CloseList
+returns-in-CloseList c = simp c.in-CloseList.is
+
+pub returns-in-OpenObject : goal.returns-in-OpenObject
+returns-in-OpenObject c = simp (c.in-OpenObject.is, c.row_object.ensures)
+
+pub returns-in-CloseObject : goal.returns-in-CloseObject
+returns-in-CloseObject c = simp (c.in-CloseObject.is, c.row_end.ensures)

@@ -1,0 +1,133 @@
+use Prim.Native.Nat.{ℕ, ◌+◌, ◌-◌, ◌*◌, ◌≤◌}
+use mathlib.Core.Path.{◌≡◌, refl, sym, ap, ◌∙◌, subst}
+use mathlib.Core.List.{List}
+use mathlib.Core.Logic.{inl, inr}
+use native.Mathlib.Omega.{arith}
+use lib.ListN.{length, take, drop}
+use Rattle.matching.specs.Machinery.Rows.{first_row}
+use Rattle.states.specs.Machinery.Rows.{codes_at, codes_laid, row_at}
+use Rattle.states.specs.Machinery.Search.{Partial, Untouched}
+use Rattle.states.proofs.RowsInWords.{row_laid, behind-kept, untouched-same, untouched-both, untouched-first}
+use Rattle.states.proofs.Stepping.{search-begins, search-goes-on, search-ends, first-length}
+use Rattle.states.proofs.TakenRows.{searchable-stays}
+use borrow.Author.Rules.{rules}
+use Rattle.states.proofs.explore.explore.Goals as goal
+
+pub loop-row-init : goal.loop-row-init
+loop-row-init c = let words : List ℕ =
+    c.args.words.now in
+    let positions : ℕ =
+    c.args.positions in
+    let first-codes : c.first_state-first.result ≡ first_row (codes_laid positions words) =
+    c.first_state-first.ensures
+    ∙ ap (λ (k : ℕ). first_row (take k (drop codes_at words))) {x = codes_at + positions - codes_at} {y = positions} (omega arith) in
+    let eight : length c.first_state-first.result ≡ 8 =
+    ap length first-codes ∙ first-length (codes_laid positions words) in
+    let stay : drop codes_at c.put_row.new.words ≡ drop codes_at words =
+    ap (drop codes_at) c.put_row.ensures ∙ behind-kept words 0 codes_at c.first_state-first.result eight (omega arith) in
+    let begun : Partial (codes_laid positions c.put_row.new.words) c.put_row.new.words 1 0 =
+    search-begins (codes_laid positions c.put_row.new.words) c.put_row.new.words
+    (ap (λ (l : List ℕ). row_at l 0) c.put_row.ensures
+    ∙ row_laid words 0 c.first_state-first.result eight (omega (arith, c.requires.room))
+    ∙ first-codes
+    ∙ ap (λ (l : List ℕ). first_row (take positions l)) (sym stay)) in
+    (omega arith, refl, refl, begun, untouched-same c.put_row.new.words 1)
+
+pub try_bytes-found-requires : goal.try_bytes-found-requires
+try_bytes-found-requires c =
+    let words : List ℕ =
+    c.args.words.now in
+    let positions : ℕ =
+    c.args.positions in
+    let first-codes : c.first_state-first.result ≡ first_row (codes_laid positions words) =
+    c.first_state-first.ensures
+    ∙ ap (λ (k : ℕ). first_row (take k (drop codes_at words))) {x = codes_at + positions - codes_at} {y = positions} (omega arith) in
+    let eight : length c.first_state-first.result ≡ 8 =
+    ap length first-codes ∙ first-length (codes_laid positions words) in
+    let stay : drop codes_at c.put_row.new.words ≡ drop codes_at words =
+    ap (drop codes_at) c.put_row.ensures ∙ behind-kept words 0 codes_at c.first_state-first.result eight (omega arith) in
+    let l = c.loop-row in
+    let a = c.args in
+    (
+      searchable-stays a.words.now l.words (l.invariant.2 ∙ stay) a.positions
+          (l.invariant.1 ∙ c.put_row.auto.words) c.requires,
+      omega arith,
+      subst (λ (codes : List ℕ). Partial codes l.words l.n (l.row * 128)) (sym (ap (take a.positions) l.invariant.2)) l.invariant.3,
+    )
+
+pub shape_of-words-then-found-gt-MOST_STATES : goal.shape_of-words-then-found-gt-MOST_STATES
+shape_of-words-then-found-gt-MOST_STATES c = c.try_bytes-found.auto.words ∙ c.loop-row.invariant.1 ∙ c.put_row.auto.words
+
+pub returns-then-found-gt-MOST_STATES : goal.returns-then-found-gt-MOST_STATES
+returns-then-found-gt-MOST_STATES c =
+    let words : List ℕ =
+    c.args.words.now in
+    let positions : ℕ =
+    c.args.positions in
+    let first-codes : c.first_state-first.result ≡ first_row (codes_laid positions words) =
+    c.first_state-first.ensures
+    ∙ ap (λ (k : ℕ). first_row (take k (drop codes_at words))) {x = codes_at + positions - codes_at} {y = positions} (omega arith) in
+    let eight : length c.first_state-first.result ≡ 8 =
+    ap length first-codes ∙ first-length (codes_laid positions words) in
+    let stay : drop codes_at c.put_row.new.words ≡ drop codes_at words =
+    ap (drop codes_at) c.put_row.ensures ∙ behind-kept words 0 codes_at c.first_state-first.result eight (omega arith) in
+    let untouched : Untouched words c.put_row.new.words 1 =
+    subst (λ (l : List ℕ). Untouched words l 1) (sym c.put_row.ensures) (untouched-first words c.first_state-first.result eight) in
+    let l = c.loop-row in
+    let a = c.args in
+    let laid = c.put_row.new.words in
+    let same = l.invariant.2 ∙ stay in
+    record {
+      kept = c.try_bytes-found.ensures.kept ∙ same;
+      untouched =
+          untouched-both a.words.now laid c.try_bytes-found.new.words 1 c.try_bytes-found.result (omega (arith, l.invariant.3.some, c.try_bytes-found.ensures.more)) untouched
+          (untouched-both laid l.words c.try_bytes-found.new.words l.n c.try_bytes-found.result c.try_bytes-found.ensures.more l.invariant.4 c.try_bytes-found.ensures.untouched);
+      answer = inr (search-ends a.positions a.words.now l.words c.try_bytes-found.new.words l.n ((l.row + 1) * 128) c.try_bytes-found.result same c.try_bytes-found.ensures (omega arith));
+    }
+
+pub loop-row-smaller : goal.loop-row-smaller
+loop-row-smaller c = omega (arith, c.loop-row.invariant.3.few)
+
+pub loop-row-preserved : goal.loop-row-preserved
+loop-row-preserved c =
+    let l = c.loop-row in
+    let a = c.args in
+    let laid = c.put_row.new.words in (
+      omega (arith, c.try_bytes-found.ensures.more),
+      c.try_bytes-found.auto.words ∙ l.invariant.1,
+      c.try_bytes-found.ensures.kept ∙ l.invariant.2,
+      search-goes-on a.positions laid l.words c.try_bytes-found.new.words l.n ((l.row + 1) * 128) c.try_bytes-found.result l.invariant.2 c.try_bytes-found.ensures (omega arith),
+      untouched-both laid l.words c.try_bytes-found.new.words l.n c.try_bytes-found.result c.try_bytes-found.ensures.more l.invariant.4 c.try_bytes-found.ensures.untouched,
+    )
+
+pub shape_of-words : goal.shape_of-words
+shape_of-words c = c.loop-row.invariant.1 ∙ c.put_row.auto.words
+
+pub returns : goal.returns
+returns c =
+    let words : List ℕ =
+    c.args.words.now in
+    let positions : ℕ =
+    c.args.positions in
+    let first-codes : c.first_state-first.result ≡ first_row (codes_laid positions words) =
+    c.first_state-first.ensures
+    ∙ ap (λ (k : ℕ). first_row (take k (drop codes_at words))) {x = codes_at + positions - codes_at} {y = positions} (omega arith) in
+    let eight : length c.first_state-first.result ≡ 8 =
+    ap length first-codes ∙ first-length (codes_laid positions words) in
+    let stay : drop codes_at c.put_row.new.words ≡ drop codes_at words =
+    ap (drop codes_at) c.put_row.ensures ∙ behind-kept words 0 codes_at c.first_state-first.result eight (omega arith) in
+    let untouched : Untouched words c.put_row.new.words 1 =
+    subst (λ (l : List ℕ). Untouched words l 1) (sym c.put_row.ensures) (untouched-first words c.first_state-first.result eight) in
+    let l = c.loop-row in
+    let a = c.args in
+    let all : l.row ≡ l.n = omega arith in
+    record {
+      kept = l.invariant.2 ∙ stay;
+      untouched = untouched-both a.words.now c.put_row.new.words l.words 1 l.n l.invariant.3.some untouched l.invariant.4;
+      answer =
+          inl (
+            l.invariant.3.few,
+            subst (λ (k : ℕ). Partial (codes_laid a.positions a.words.now) l.words l.n (k * 128)) all
+                (subst (λ (codes : List ℕ). Partial (take a.positions codes) l.words l.n (l.row * 128)) stay l.invariant.3),
+          );
+    }

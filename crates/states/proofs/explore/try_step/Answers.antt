@@ -1,0 +1,89 @@
+-- The row that the step leads to is looked for among those that were found; where it is new it goes behind them.
+use Prim.Native.Nat.{ℕ, suc, ◌+◌, ◌-◌, ◌*◌, ◌/◌, ◌<◌}
+use mathlib.Core.Path.{◌≡◌, refl, sym, ap, ap₂, ◌∙◌, subst}
+use mathlib.Core.List.{List}
+use mathlib.Core.Logic.{inl, inr}
+use native.Mathlib.Numerals.{add-one}
+use native.Mathlib.Omega.{arith}
+use lib.ListN.{length, take, drop, set}
+use Rattle.matching.specs.Machinery.Words.{words_row}
+use Rattle.states.specs.Machinery.Rows.{most_states, keys_at, codes_at, codes_laid, row_at, stars_laid}
+use Rattle.states.specs.Machinery.Search.{step_from, Partial, Untouched}
+use Rattle.states.proofs.RowsInWords.{with_row, with-other-row, with-kept, with-untouched, untouched-same}
+use Rattle.states.proofs.Stepping.{step-known, step-over, step-new, step-length}
+use Rattle.states.proofs.TakenRows.{step-leads}
+use borrow.Author.Rules.{rules}
+use Rattle.states.proofs.explore.try_step.Goals as goal
+
+pub returns-then-at-n : goal.returns-then-at-n
+returns-then-at-n c =
+    let a = c.args in
+    let words = a.words.now in
+    let codes = codes_laid a.positions words in
+    let row = (let known_leads : c.step_words-row.result
+    ≡ step_from (codes_laid c.args.positions c.args.words.now) c.args.words.now c.args.i c.args.b = let a = c.args in
+    let words = a.words.now in
+    let at = (607 + a.b) * 8 in
+    c.step_words-row.ensures
+    ∙ ap₂ (λ (n : ℕ) (row : List ℕ). words_row ((a.positions + 63) / 64) (take n (drop at words)) (stars_laid words) row)
+    {x = at + 8 - at} {y = 8} (omega arith) c.requires.3
+    ∙ step-leads a.positions words c.requires.0 a.i a.b c.requires.2 in known_leads) in
+    let found = c.find_row-at.ensures in record { searched = record {
+        kept = refl;
+        untouched = untouched-same words a.n;
+        more = omega arith;
+        answer = inl (c.requires.4.few, step-known codes words a.n a.i a.b c.requires.4 c.requires.1 c.requires.2 c.find_row-at.result c.if-at-n.true (found.here c.if-at-n.true ∙ row));
+      }; kept = refl }
+
+pub returns-then-n-ge-MOST_STATES : goal.returns-then-n-ge-MOST_STATES
+returns-then-n-ge-MOST_STATES c =
+    let a = c.args in
+    let words = a.words.now in
+    let codes = codes_laid a.positions words in
+    let row = (let known_leads : c.step_words-row.result
+    ≡ step_from (codes_laid c.args.positions c.args.words.now) c.args.words.now c.args.i c.args.b = let a = c.args in
+    let words = a.words.now in
+    let at = (607 + a.b) * 8 in
+    c.step_words-row.ensures
+    ∙ ap₂ (λ (n : ℕ) (row : List ℕ). words_row ((a.positions + 63) / 64) (take n (drop at words)) (stars_laid words) row)
+    {x = at + 8 - at} {y = 8} (omega arith) c.requires.3
+    ∙ step-leads a.positions words c.requires.0 a.i a.b c.requires.2 in known_leads) in
+    let found = c.find_row-at.ensures in record { searched = record {
+        kept = refl;
+        untouched = untouched-same words (suc most_states);
+        more = omega (arith, c.requires.4.few);
+        answer = inr (refl, step-over codes words a.n a.i a.b c.requires.4 c.requires.1 c.requires.2 (omega arith) (λ j l same. found.before j (omega arith) (same ∙ sym row)));
+      }; kept = refl }
+
+pub returns : goal.returns
+returns c =
+    let a = c.args in
+    let words = a.words.now in
+    let codes = codes_laid a.positions words in
+    let row = (let known_leads : c.step_words-row.result
+    ≡ step_from (codes_laid c.args.positions c.args.words.now) c.args.words.now c.args.i c.args.b = let a = c.args in
+    let words = a.words.now in
+    let at = (607 + a.b) * 8 in
+    c.step_words-row.ensures
+    ∙ ap₂ (λ (n : ℕ) (row : List ℕ). words_row ((a.positions + 63) / 64) (take n (drop at words)) (stars_laid words) row)
+    {x = at + 8 - at} {y = 8} (omega arith) c.requires.3
+    ∙ step-leads a.positions words c.requires.0 a.i a.b c.requires.2 in known_leads) in
+    let found = c.find_row-at.ensures in
+    let result = c.step_words-row.result in
+    let eight : length result ≡ 8 = ap length row ∙ step-length codes a.b (row_at words a.i) in
+    let space : a.n < most_states = omega arith in
+    let laid = ap (λ (l : List ℕ). set l (keys_at + a.n) (a.i * 128 + a.b)) c.put_row.ensures in record { searched = record {
+        kept = ap (drop codes_at) laid ∙ with-kept words a.n result (a.i * 128 + a.b) eight space (omega (arith, c.requires.0.room));
+        untouched =
+            subst (λ (l : List ℕ). Untouched words l (a.n + 1)) (sym laid)
+            (with-untouched words a.n result (a.i * 128 + a.b) eight space (omega (arith, c.requires.0.room)) c.requires.4.some);
+        more = omega arith;
+        answer =
+            inl (
+              omega arith,
+              subst (λ (l : List ℕ). Partial codes l (a.n + 1) (a.i * 128 + a.b + 1)) (sym laid)
+                  (subst (λ (m : ℕ). Partial codes (with_row words a.n result (a.i * 128 + a.b)) m (a.i * 128 + a.b + 1)) (sym (add-one a.n))
+                  (step-new codes words a.n a.i a.b c.requires.4 c.requires.1 c.requires.2 result row eight space (omega (arith, c.requires.0.room)) (λ j l. found.before j (omega arith)))),
+            );
+      }; kept = ap (λ (l : List ℕ). row_at l a.i) laid
+          ∙ with-other-row words a.n result (a.i * 128 + a.b) eight space (omega (arith, c.requires.0.room)) a.i (omega (arith, c.requires.1, c.requires.4.few)) (λ w. omega (arith, c.requires.1)) }

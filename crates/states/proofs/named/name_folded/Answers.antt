@@ -1,0 +1,39 @@
+-- By the cases of the byte: it has no case, it is a capital letter, or a small one, which the capital one folds to.
+use Prim.Native.Nat.{◌-◌}
+use mathlib.Core.Logic.{inl, inr}
+use native.Mathlib.Omega.{arith}
+use lib.Dec.{eqb}
+use Rattle.matching.specs.Symbols.{fold_byte}
+use Rattle.states.proofs.CodeBytes.{fold-alone, fold-never, fold-letter}
+use Rattle.states.proofs.ByteSets.{adds_none, adds-as, adds-both}
+use borrow.Author.Rules.{rules}
+use Rattle.states.proofs.named.name_folded.Goals as goal
+
+pub returns-then-b : goal.returns-then-b
+returns-then-b c =
+    let a = c.args in
+    adds-as a.named c.with_byte.result (λ x. eqb x a.b) (λ x. eqb (fold_byte x) a.b) c.with_byte.ensures
+    (λ x few. fold-alone a.b x (inl c.if-b.true))
+
+pub returns-then-b-2 : goal.returns-then-b-2
+returns-then-b-2 c =
+    let a = c.args in
+    adds_none a.named (λ x. eqb (fold_byte x) a.b) (λ x few. fold-never a.b x (omega arith) (omega arith))
+
+pub returns-then-b-3 : goal.returns-then-b-3
+returns-then-b-3 c =
+    let a = c.args in
+    adds-as a.named c.with_byte-more.result (λ x. eqb x a.b) (λ x. eqb (fold_byte x) a.b) c.with_byte-more.ensures
+    (λ x few. fold-alone a.b x (inr (inl (omega arith, omega arith))))
+
+pub returns-then-b-4 : goal.returns-then-b-4
+returns-then-b-4 c =
+    let a = c.args in
+    adds-as a.named c.with_byte-more.result (λ x. eqb x a.b) (λ x. eqb (fold_byte x) a.b) c.with_byte-more.ensures
+    (λ x few. fold-alone a.b x (inr (inr (omega arith))))
+
+pub returns : goal.returns
+returns c =
+    let a = c.args in
+    adds-both a.named c.with_byte-more.result c.with_byte-2.result (λ x. eqb x a.b) (λ x. eqb x (a.b - 32)) (λ x. eqb (fold_byte x) a.b) c.with_byte-more.ensures
+    c.with_byte-2.ensures (λ x. fold-letter a.b x (omega arith) (omega arith))

@@ -1,0 +1,17 @@
+-- The words before the index are laid down and the others are as they were: that is the invariant.
+use native.Mathlib.Numerals.{add-one}
+use Rattle.stored.proofs.Writing.{pasted}
+use Prim.Native.Nat.{◌+◌, ◌-◌, ◌*◌, ◌≤◌, ◌<◌}
+use mathlib.Core.Path.{◌≡◌, refl, ◌∙◌}
+use native.Mathlib.Omega.{arith}
+use lib.ListN.{length, length-set}
+use lib.Seq.{paste, paste-zero, paste-suc}
+use borrow.Author.Rules.{rules}
+use Rattle.states.proofs.rows.put_row.Given as goal
+
+abbrev pub invariant-loop-k : goal.invariant-loop-k
+invariant-loop-k l =
+    (l.at ≡ l.i * 8) × (length l.row ≡ 8) × (l.k ≤ 8) × (length l.words ≡ length l.initial.words) × (l.words ≡ paste l.initial.words l.at l.row l.k)
+
+abbrev pub decreases-loop-k : goal.decreases-loop-k
+decreases-loop-k l = 8 - l.k

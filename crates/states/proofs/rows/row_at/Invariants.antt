@@ -1,0 +1,17 @@
+-- The words before the index are those of the row: that is the invariant.
+use lib.ListN.{set, length, get_or, take, length-set}
+use lib.Seq.{take-set-le, get_or-set_same}
+use Prim.Native.Nat.{◌+◌, ◌-◌, ◌*◌, ◌≤◌}
+use mathlib.Core.Path.{◌≡◌, refl, sym, ◌∙◌}
+use native.Mathlib.Omega.{arith}
+use Rattle.states.specs.Machinery.Rows.{row_at}
+use Rattle.states.proofs.RowsInWords.{prefix-next, prefix-all, row-length, row_word}
+use borrow.Author.Rules.{rules}
+use Rattle.states.proofs.rows.row_at.Given as goal
+
+abbrev pub invariant-loop-k : goal.invariant-loop-k
+invariant-loop-k l =
+    (l.at ≡ l.i * 8) × (l.k ≤ 8) × (length l.row ≡ 8) × (take l.k l.row ≡ take l.k (row_at l.words l.i))
+
+abbrev pub decreases-loop-k : goal.decreases-loop-k
+decreases-loop-k l = 8 - l.k

@@ -1,0 +1,99 @@
+use Prim.Native.Nat.{ℕ, suc, ◌+◌, ◌-◌, ◌/◌, ◌%◌, ◌<◌}
+use mathlib.Core.Path.{◌≡◌, refl, sym, ap, ◌∙◌}
+use mathlib.Core.List.{List, ◌∷◌}
+use native.Mathlib.Omega.{arith}
+use lib.ListN.{length, set, length-set}
+use lib.Seq.{sets}
+use Rattle.matching.specs.Machinery.Rows.{forward}
+use Rattle.states.specs.Machinery.Rows.{key_at}
+use Rattle.states.specs.Machinery.Search.{chain, string_of}
+use Rattle.states.proofs.StringsOfRows.{chain-short, chain-parent, length-forward, sets_last}
+use borrow.Author.Rules.{rules}
+use Rattle.states.proofs.strings.lay_string.Goals as goal
+
+pub loop-row-init : goal.loop-row-init
+loop-row-init c =
+    let a = c.args in
+    (c.requires.0.low, c.string_length-size.ensures ∙ length-forward (chain a.i a.words.now a.i), refl, refl)
+
+pub overflow_sub-left : goal.overflow_sub-left
+overflow_sub-left c = let words : List ℕ =
+    c.args.words.now in
+    let row : ℕ =
+    c.loop-row.row in
+    let older : ℕ =
+    key_at words row / 128 in
+    let one_more : chain row words row ≡ key_at words row % 128 ∷ chain older words older =
+    chain-parent words c.args.n c.requires.0.keyed row c.loop-row-test.true c.loop-row.invariant.0 in
+    let left-more : c.loop-row.left ≡ suc (length (chain older words older)) =
+    c.loop-row.invariant.1 ∙ ap length one_more in
+    omega (arith, left-more)
+
+pub overflow_add-values : goal.overflow_add-values
+overflow_add-values c = let words : List ℕ =
+    c.args.words.now in
+    let row : ℕ =
+    c.loop-row.row in
+    omega (arith, c.loop-row.invariant.1, chain-short words row row, c.requires.1, c.requires.0.few)
+
+pub bounds-values-at : goal.bounds-values-at
+bounds-values-at c = let words : List ℕ =
+    c.args.words.now in
+    let row : ℕ =
+    c.loop-row.row in
+    let older : ℕ =
+    key_at words row / 128 in
+    let one_more : chain row words row ≡ key_at words row % 128 ∷ chain older words older =
+    chain-parent words c.args.n c.requires.0.keyed row c.loop-row-test.true c.loop-row.invariant.0 in
+    let left-more : c.loop-row.left ≡ suc (length (chain older words older)) =
+    c.loop-row.invariant.1 ∙ ap length one_more in
+    omega (arith, c.loop-row.invariant.1, left-more, chain-short words row row, c.requires.1, c.requires.0.few)
+
+pub loop-row-smaller : goal.loop-row-smaller
+loop-row-smaller c = let words : List ℕ =
+    c.args.words.now in
+    let row : ℕ =
+    c.loop-row.row in
+    let older : ℕ =
+    key_at words row / 128 in
+    let is-older : older < row =
+    c.requires.0.keyed.parent row c.loop-row-test.true c.loop-row.invariant.0 in
+    is-older
+
+pub loop-row-preserved : goal.loop-row-preserved
+loop-row-preserved c =
+    let words : List ℕ =
+    c.args.words.now in
+    let row : ℕ =
+    c.loop-row.row in
+    let older : ℕ =
+    key_at words row / 128 in
+    let is-older : older < row =
+    c.requires.0.keyed.parent row c.loop-row-test.true c.loop-row.invariant.0 in
+    let one_more : chain row words row ≡ key_at words row % 128 ∷ chain older words older =
+    chain-parent words c.args.n c.requires.0.keyed row c.loop-row-test.true c.loop-row.invariant.0 in
+    let left-more : c.loop-row.left ≡ suc (length (chain older words older)) =
+    c.loop-row.invariant.1 ∙ ap length one_more in
+    let l = c.loop-row in
+    let a = c.args in
+    let bytes = chain older words older in
+    let last = key_at words l.row % 128 in
+    let place : l.left - 1 ≡ length (forward bytes) = omega (arith, left-more, length-forward bytes) in (
+      omega (arith, is-older),
+      omega (arith, left-more),
+      simp length-set l.invariant.2,
+      ap (λ (k : ℕ). sets (set l.values (a.at + k) last) a.at (forward bytes)) place
+          ∙ sym (sets_last l.values a.at (forward bytes) last)
+          ∙ ap (λ (r : List ℕ). sets l.values a.at (forward r)) (sym one_more)
+          ∙ l.invariant.3,
+    )
+
+pub shape_of-values : goal.shape_of-values
+shape_of-values c = c.loop-row.invariant.2
+
+pub returns : goal.returns
+returns c =
+    let l = c.loop-row in
+    let w = c.args.words.now in
+    let none : l.row ≡ 0 = omega arith in
+    record { laid = sym (ap (λ (row : ℕ). sets l.values c.args.at (forward (chain row w row))) none) ∙ l.invariant.3; size = c.string_length-size.ensures }
