@@ -127,8 +127,7 @@ fn json_code(answer: JsonAnswer) -> u64
 
 // May this request pass? Bit i of `present` says that the key with code i is there; higher bits, and the bytes or the number of an absent
 // key, are not looked at.
-#[unsafe(no_mangle)]
-pub extern "C" fn stamenhum_judge(
+pub fn stamenhum_judge(
     table: &[u8],
     principal: &[u8],
     action: &[u8],
@@ -157,8 +156,7 @@ pub extern "C" fn stamenhum_judge(
 }
 
 // How many kinds of request does the first table allow and the second not?
-#[unsafe(no_mangle)]
-pub extern "C" fn stamenhum_gaps(first: &[u8], second: &[u8]) -> u64
+pub fn stamenhum_gaps(first: &[u8], second: &[u8]) -> u64
     ensures { Counts first.now second.now result }
 {
     let mut workspace = [0u64; WORKSPACE];
@@ -166,8 +164,7 @@ pub extern "C" fn stamenhum_gaps(first: &[u8], second: &[u8]) -> u64
 }
 
 // What is gap k? Its values are laid down in the buffer as RULES 6.5 says.
-#[unsafe(no_mangle)]
-pub extern "C" fn stamenhum_gap(first: &[u8], second: &[u8], k: u64, values: &mut [u8]) -> u64
+pub fn stamenhum_gap(first: &[u8], second: &[u8], k: u64, values: &mut [u8]) -> u64
     ensures { Shows first.now second.now k values.old result values.new }
 {
     let mut workspace = [0u64; WORKSPACE];
@@ -176,8 +173,7 @@ pub extern "C" fn stamenhum_gap(first: &[u8], second: &[u8], k: u64, values: &mu
 
 // Which table does this policy in the public JSON form make? It is laid down from the first byte of the buffer on; a refusal leaves
 // the buffer as it was.
-#[unsafe(no_mangle)]
-pub extern "C" fn stamenhum_read_json(json: &[u8], table: &mut [u8]) -> u64
+pub fn stamenhum_read_json(json: &[u8], table: &mut [u8]) -> u64
     ensures { ReadsJson json.now table.old result table.new }
 {
     json_code(read_json(json, table))
