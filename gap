@@ -84,12 +84,12 @@ note_first() { # FILE NAME
 # Proves and builds a program, unless that was done since its source last changed.
 build() { # PROGRAM
     local built=$here/target/$1-built
-    [ -x "$here/target/bin/$1" ] && [ -e "$built" ] && [ -z "$(find "$here/crates" "$here/crates.txt" -newer "$built" -print | head -n 1)" ] && return
+    [ -x "$here/target/bin/$1" ] && [ -e "$built" ] && [ -z "$(find "$here/crates" "$here/crates.txt" -name out -prune -o -type f -newer "$built" -print | head -n 1)" ] && return
     command -v rt >/dev/null 2>&1 || fail "the Rattle toolchain is not installed: its command rt is not on the PATH"
-    mkdir -p "$here/target" || fail "there is no folder $here/target"
-    echo "gap: proving and building the program $1 (rt check $1); the first time this takes five to ten minutes" >&2
-    (cd "$here" && set -o pipefail && rt check "$1" 2>&1 | tee "target/$1.log" | grep --line-buffered '^rt:' >&2) ||
-        fail "the program $1 was not built; $here/target/$1.log says why"
+    mkdir -p "$here/target/bin" || fail "there is no folder $here/target/bin"
+    echo "gap: proving and building the program $1 (rt run $1); the first time this takes some minutes" >&2
+    (cd "$here" && { rt run "$1" </dev/null 2>&1 | tee "target/$1.log" | grep --line-buffered '^rt:' >&2; exit "${PIPESTATUS[0]}"; }) &&
+        cp "$here/crates/$1/out/$1" "$here/target/bin/$1" || fail "the program $1 was not built; $here/target/$1.log says why"
     touch "$built"
 }
 
@@ -98,11 +98,11 @@ run() { # PROGRAM
     local home tools loader emulator word
     command -v rt >/dev/null 2>&1 || [ -n "${RATTLE_HOME:-}" ] || fail "the Rattle toolchain is not installed: its command rt is not on the PATH"
     home=${RATTLE_HOME:-$(dirname "$(dirname "$(readlink -f "$(command -v rt)")")")}
-    tools=$home/on/$(uname -m)/toolchain
+    tools=$home/toolchain
     loader=$tools/lib/ld-linux-x86-64.so.2
-    [ -e "$loader" ] || fail "the Rattle toolchain at $home has no loader for programs on this machine, $(uname -m)"
-    emulator=$tools/bin/qemu-x86_64
-    [ -x "$emulator" ] || emulator=
+    [ -e "$loader" ] || fail "the Rattle toolchain at $home has no loader for programs"
+    emulator=
+    [ "$(uname -m)" = x86_64 ] || emulator=$(command -v qemu-x86_64) || fail "there is no qemu-x86_64 to run x86-64 programs with"
     for word in $(env | sed -n 's/^\(QEMU_[A-Za-z0-9_]*\)=.*/\1/p'); do unset "$word"; done
     ${emulator:+"$emulator"} "$loader" --library-path "$tools/lib" "$here/target/bin/$1" || fail "the program $1 ended with status $?"
 }

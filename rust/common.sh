@@ -2,7 +2,7 @@
 #
 # Whoever reads this file has set `rust`, `root` and `machine`, and `asker`, the name that messages begin with.
 #
-#   STAMENHUM_LIB       the folder of a libportal.a that is there already; else `rt staticlib portal` makes one
+#   STAMENHUM_LIB       the folder of a libportal.a that is there already; else `rt lib portal_c` makes one
 # shellcheck shell=bash
 
 say() { echo "$asker: $*"; }
@@ -49,13 +49,19 @@ need_linker() {
     echo 'int main(void) { return 0; }' | cc -x c -o /dev/null - 2>/dev/null || install_one_of libc6-dev
 }
 
+# make_library TREE: the static library of a checkout, proved and built, as TREE/target/staticlib/libportal.a.
+make_library() {
+    (cd "$1" && rt lib portal_c) || return 1
+    mkdir -p "$1/target/staticlib" && cp "$1/crates/portal_c/out/libportal_c.a" "$1/target/staticlib/libportal.a"
+}
+
 need_library() {
     if [ -n "${STAMENHUM_LIB:-}" ]; then
         STAMENHUM_LIB=$(cd "$STAMENHUM_LIB" && pwd -P) || fail "STAMENHUM_LIB is no folder"
     else
         command -v rt >/dev/null || fail "the Rattle toolchain's command rt is not on the PATH, and STAMENHUM_LIB is not set"
-        say "rt staticlib portal"
-        (cd "$root" && rt staticlib portal) || fail "the library could not be made"
+        say "rt lib portal_c"
+        make_library "$root" || fail "the library could not be made"
         STAMENHUM_LIB=$root/target/staticlib
     fi
     export STAMENHUM_LIB

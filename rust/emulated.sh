@@ -23,12 +23,11 @@ find_toolchain() {
         command -v rt >/dev/null || fail "the Rattle toolchain's command rt is not on the PATH"
         home=$(dirname "$(dirname "$(readlink -f "$(command -v rt)")")")
     fi
-    tools=$home/on/$machine/toolchain
+    tools=$home/toolchain
     [ -x "$tools/bin/ld.lld" ] || fail "the toolchain has no linker at $tools/bin/ld.lld"
-    emulator=$tools/bin/qemu-x86_64
-    if [ ! -x "$emulator" ]; then
-        [ "$machine" = x86_64 ] || fail "the toolchain has no emulator at $emulator"
-        emulator=
+    emulator=
+    if [ "$machine" != x86_64 ]; then
+        emulator=$(command -v qemu-x86_64) || fail "there is no qemu-x86_64 to run x86-64 programs with"
     fi
 }
 

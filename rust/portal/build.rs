@@ -1,5 +1,5 @@
 //! Tells the linker where the verified library stands: the folder STAMENHUM_LIB, or target/staticlib of the
-//! repository, where `rt staticlib portal` writes it.
+//! repository, where `rust/test` puts what `rt lib portal_c` makes.
 
 use std::env;
 use std::path::{Path, PathBuf};
@@ -15,7 +15,7 @@ fn main() {
     println!("cargo:rerun-if-changed={}", library.display());
     if !library.is_file() {
         eprintln!("There is no {}.", library.display());
-        eprintln!("Make it by `rt staticlib portal` in the repository's root, or let STAMENHUM_LIB name its folder.");
+        eprintln!("Let `rust/test` make it, or let STAMENHUM_LIB name its folder.");
         exit(1);
     }
     println!("cargo:rustc-link-search=native={}", folder.display());

@@ -1,0 +1,11 @@
+-- The place stays in the text, and the room keeps its length.
+use Prim.Native.Nat.{◌-◌, ◌≤◌}
+use mathlib.Core.Path.{◌≡◌}
+use lib.ListN.{length}
+use Rattle.policy_cases.proofs.cases_of.lay_case.Given as goal
+
+abbrev pub invariant-loop-at : goal.invariant-loop-at
+invariant-loop-at l = (l.at ≤ length l.text) × (length l.room ≡ length l.initial.room)
+
+abbrev pub decreases-loop-at : goal.decreases-loop-at
+decreases-loop-at l = length l.text - l.at
