@@ -6,7 +6,7 @@ use lib.ListN.{length-map}
 use Rattle.matching.specs.declared.reading.Reading.{Reading}
 use Rattle.matching.specs.declared.symbols.Cursor.{Cursor}
 use Rattle.matching.specs.declared.symbols.Next.TheVariants as N
-use Rattle.matching.specs.Symbols.{Symbol, pick, symbol_of, symbols, is_everyone, is_wild, ignores_case}
+use Rattle.matching.specs.Symbols.{pick, symbol_of, symbols, is_everyone, is_wild, ignores_case}
 use Rattle.matching.specs.Machinery.Codes.{symbol_code, symbol_codes}
 use Rattle.matching.specs.Machinery.Cursor.{size_from, open_of, behind, next_of, codes_left}
 use Rattle.matching.proofs.Parts.{part-more, part-done, part-past}

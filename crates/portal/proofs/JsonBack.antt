@@ -1,23 +1,22 @@
 -- What the numbers that `stamenhum_read_json` returns say: the answer is read back from each; and what is written is judged as the document
 -- says.
-use Prim.Native.Nat.{ℕ, ◌+◌, ◌*◌, ◌/◌, ◌%◌, ◌^◌, ◌≤◌, ◌<◌}
+use Prim.Native.Nat.{ℕ, ◌/◌, ◌%◌, ◌^◌, ◌≤◌, ◌<◌}
 use mathlib.Core.Path.{◌≡◌, refl, sym, ◌∙◌, ap, subst}
 use mathlib.Core.Bool.{Bool, true, false}
-use mathlib.Core.List.{List, [], ◌++◌}
+use mathlib.Core.List.{List}
 use mathlib.Core.Logic.{◌↔◌}
 use native.Mathlib.Omega.{arith}
 use lib.Dec.{ltb}
-use lib.ListN.{length, take, drop}
-use borrow.Author.Tests.{ltb-true, ltb-false}
+use lib.ListN.{length, take}
+use borrow.Author.Tests.{ltb-true}
 use Rattle.json_text.specs.Grammar.{Text}
 use Rattle.stored.specs.Machine.{fresh_state}
-use Rattle.stored.specs.Tables.{Statement, rows_of}
+use Rattle.stored.specs.Tables.{Statement}
 use Rattle.records.specs.Documents.{statements_of}
 use Rattle.records.specs.Wishes.{wishes}
 use Rattle.judging.specs.Requests.{columns, first_fault}
 use Rattle.judging.specs.Meaning.{is_allowed}
-use Rattle.comparing.specs.Outcomes.{IsTable}
-use Rattle.policy.specs.Answers.{document_of, table_for, JsonAnswered}
+use Rattle.policy.specs.Answers.{document_of, JsonAnswered}
 use Rattle.policy.specs.Answers.JsonAnswered.{no_text, wrong_member, wrong_record, too_long, no_room, written}
 use Rattle.policy.specs.declared.reader.JsonAnswer.{JsonAnswer}
 use Rattle.policy.specs.declared.reader.JsonAnswer.TheVariants as R

@@ -1,6 +1,6 @@
 -- Which numbers a refusal can have, and at which place: what the kind alone decides is 3, 4 or 5, what the whole record decides is 4, 6, 7
 -- or 8, and a reader that stops stops at a record or at the length.
-use Prim.Native.Nat.{ℕ, zero, suc, ◌+◌, ◌-◌, ◌≤◌, ◌<◌}
+use Prim.Native.Nat.{ℕ, zero, suc, ◌+◌, ◌≤◌, ◌<◌}
 use mathlib.Core.Path.{◌≡◌, refl}
 use mathlib.Core.Bool.{Bool, true, false, not, ◌&&◌, ◌||◌}
 use mathlib.Core.List.{List}

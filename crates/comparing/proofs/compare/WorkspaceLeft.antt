@@ -1,6 +1,6 @@
 -- What the workspace holds after either question: 14 is given exactly where lent memory is too short, since no other case has that number;
 -- the contract then leaves the workspace as it was, and else all zero.
-use Prim.Native.Nat.{ℕ, ◌≤◌, ◌<◌}
+use Prim.Native.Nat.{ℕ, ◌<◌}
 use mathlib.Core.Path.{◌≡◌, refl, sym, ◌∙◌, ap, ap₂}
 use mathlib.Core.Bool.{Bool, true, false, ◌||◌}
 use mathlib.Core.List.{List}

@@ -1,5 +1,5 @@
 -- The first values that show the footprints of a column, gathered one after the other.
-use Rattle.std.specs.Prelude.{ℕ, zero, suc, ◌+◌, ◌^◌, List, [], ◌∷◌, ◌++◌, eqb, ltb}
+use Rattle.std.specs.Prelude.{ℕ, zero, suc, ◌^◌, List, [], ◌∷◌, ◌++◌, eqb, ltb}
 use Rattle.stored.specs.Choice.{pick, some}
 use Rattle.judging.specs.Requests.{Value, absent, text, number}
 use Rattle.states.specs.Machinery.Rows.{most_states}

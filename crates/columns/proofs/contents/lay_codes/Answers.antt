@@ -1,18 +1,17 @@
-use mathlib.Core.Path.{◌≡◌, refl, sym, ◌∙◌, ap, ap₂}
+use mathlib.Core.Path.{refl, sym, ◌∙◌, ap, ap₂}
 use mathlib.Core.List.{List}
-use Prim.Native.Nat.{ℕ, ◌+◌, ◌-◌, ◌≤◌}
+use Prim.Native.Nat.{ℕ, ◌+◌}
 use native.Mathlib.Omega.{arith}
-use lib.ListN.{length, take, drop}
+use lib.ListN.{take, drop}
 use lib.Seq.{sets}
 use Rattle.stored.proofs.Walking.{inside, body-length}
 use Rattle.matching.specs.Machinery.Codes.{codes_of}
 use Rattle.judging.proofs.Records.{record-has-kind}
 use Rattle.columns.specs.Values.{sum_of}
 use Rattle.columns.specs.Machinery.Contents.{texts}
-use Rattle.columns.specs.Machinery.Lists.{fresh_list, moved_of, found_of, positions_of}
+use Rattle.columns.specs.Machinery.Lists.{moved_of, found_of, positions_of}
 use Rattle.columns.proofs.Laying.{sets-append, found-length}
 use Rattle.columns.proofs.LeftInColumn.{left_at, all-values, sum-on, codes-on, left_cut, left-strange, left-past}
-use borrow.Author.Rules.{rules}
 use Rattle.columns.proofs.contents.lay_codes.Goals as goal
 
 pub loop-at-init : goal.loop-at-init

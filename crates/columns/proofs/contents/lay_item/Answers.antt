@@ -5,7 +5,6 @@ use lib.ListN.{take, drop}
 use lib.Seq.{sets}
 use Rattle.matching.specs.Machinery.Codes.{value_codes}
 use Rattle.columns.proofs.LeftInColumn.{no-texts}
-use borrow.Author.Rules.{rules}
 use Rattle.columns.proofs.contents.lay_item.Goals as goal
 
 pub lay_value-requires : goal.lay_value-requires

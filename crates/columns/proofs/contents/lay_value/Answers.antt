@@ -1,12 +1,11 @@
-use mathlib.Core.Path.{◌≡◌, refl, sym, ◌∙◌, ap}
-use Prim.Native.Nat.{suc, ◌+◌, ◌≤◌}
+use mathlib.Core.Path.{refl, sym, ◌∙◌, ap}
+use Prim.Native.Nat.{suc}
 use native.Mathlib.Numerals.{add-one}
 use native.Mathlib.Omega.{arith}
 use lib.ListN.{length, length-set, set}
 use lib.Seq.{sets}
 use Rattle.matching.specs.Machinery.Cursor.{codes_left}
 use Rattle.matching.proofs.Cursors.{opened, next_more, next-done, opened-few}
-use borrow.Author.Rules.{rules}
 use Rattle.columns.proofs.contents.lay_value.Goals as goal
 
 pub bounds-codes-at : goal.bounds-codes-at

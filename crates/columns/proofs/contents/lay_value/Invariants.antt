@@ -1,14 +1,10 @@
 -- The loop's invariant: with the codes left laid down behind those that are, the memory is as it is with all codes laid down from the
 -- beginning; each symbol that is found is the first of those left.
-use mathlib.Core.Path.{◌≡◌, refl, sym, ◌∙◌, ap}
-use Prim.Native.Nat.{suc, ◌+◌, ◌≤◌}
-use native.Mathlib.Numerals.{add-one}
-use native.Mathlib.Omega.{arith}
-use lib.ListN.{length, length-set, set}
+use mathlib.Core.Path.{◌≡◌}
+use Prim.Native.Nat.{◌+◌, ◌≤◌}
+use lib.ListN.{length}
 use lib.Seq.{sets}
 use Rattle.matching.specs.Machinery.Cursor.{codes_left}
-use Rattle.matching.proofs.Cursors.{opened, next_more, next-done, opened-few}
-use borrow.Author.Rules.{rules}
 use Rattle.columns.proofs.contents.lay_value.Given as goal
 
 abbrev pub invariant-loop-code : goal.invariant-loop-code

@@ -1,13 +1,12 @@
-use mathlib.Core.Path.{◌≡◌, sym, ◌∙◌, ap}
+use mathlib.Core.Path.{sym, ◌∙◌, ap}
 use mathlib.Core.List.{[]}
-use Prim.Native.Nat.{◌+◌, ◌-◌, ◌≤◌}
+use Prim.Native.Nat.{◌+◌}
 use native.Mathlib.Omega.{arith}
 use lib.ListN.{length, length-append}
 use Rattle.stored.proofs.Walking.{inside}
 use Rattle.columns.specs.Machinery.Contents.{networks}
-use Rattle.columns.specs.Machinery.Lists.{fresh_list, moved_of, found_of}
+use Rattle.columns.specs.Machinery.Lists.{moved_of, found_of}
 use Rattle.columns.proofs.LeftInColumn.{left_at, all-networks, networks-on, networks-few, left_cut, left-strange, left-past}
-use borrow.Author.Rules.{rules}
 use Rattle.columns.proofs.contents.networks_in.Goals as goal
 
 pub loop-at-init : goal.loop-at-init

@@ -1,14 +1,10 @@
 -- The loop's invariant: the networks so far and those left make the networks of the whole column; those so far are at most the bytes passed.
-use mathlib.Core.Path.{◌≡◌, sym, ◌∙◌, ap}
-use mathlib.Core.List.{[]}
+use mathlib.Core.Path.{◌≡◌}
 use Prim.Native.Nat.{◌+◌, ◌-◌, ◌≤◌}
-use native.Mathlib.Omega.{arith}
-use lib.ListN.{length, length-append}
-use Rattle.stored.proofs.Walking.{inside}
+use lib.ListN.{length}
 use Rattle.columns.specs.Machinery.Contents.{networks}
-use Rattle.columns.specs.Machinery.Lists.{fresh_list, moved_of, found_of}
-use Rattle.columns.proofs.LeftInColumn.{left_at, all-networks, networks-on, networks-few, left_cut, left-strange, left-past}
-use borrow.Author.Rules.{rules}
+use Rattle.columns.specs.Machinery.Lists.{fresh_list}
+use Rattle.columns.proofs.LeftInColumn.{left_at}
 use Rattle.columns.proofs.contents.networks_in.Given as goal
 
 abbrev pub invariant-loop-at : goal.invariant-loop-at

@@ -1,14 +1,10 @@
-use mathlib.Core.Path.{◌≡◌, sym, ◌∙◌, ap}
-use Prim.Native.Nat.{◌+◌, ◌-◌, ◌≤◌}
+use mathlib.Core.Path.{sym, ◌∙◌, ap}
 use native.Mathlib.Omega.{arith}
-use lib.ListN.{length}
 use Rattle.stored.proofs.Walking.{inside}
 use Rattle.judging.proofs.Records.{record-has-kind}
 use Rattle.columns.specs.Values.{sum_of}
 use Rattle.columns.specs.Machinery.Contents.{texts}
-use Rattle.columns.specs.Machinery.Lists.{fresh_list}
-use Rattle.columns.proofs.LeftInColumn.{left_at, all-values, sum-on, left_cut, left-strange, left-past, positions-few}
-use borrow.Author.Rules.{rules}
+use Rattle.columns.proofs.LeftInColumn.{all-values, sum-on, left_cut, left-strange, left-past, positions-few}
 use Rattle.columns.proofs.contents.positions_in.Goals as goal
 
 pub loop-at-init : goal.loop-at-init

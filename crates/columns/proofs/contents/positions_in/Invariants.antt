@@ -1,16 +1,12 @@
 -- The loop's invariant: the sum so far and the sum of what is left make the sum of the whole column; and the sum so far is at most the bytes
 -- passed, so that it does not overflow.
-use mathlib.Core.Path.{◌≡◌, sym, ◌∙◌, ap}
+use mathlib.Core.Path.{◌≡◌}
 use Prim.Native.Nat.{◌+◌, ◌-◌, ◌≤◌}
-use native.Mathlib.Omega.{arith}
 use lib.ListN.{length}
-use Rattle.stored.proofs.Walking.{inside}
-use Rattle.judging.proofs.Records.{record-has-kind}
 use Rattle.columns.specs.Values.{sum_of}
 use Rattle.columns.specs.Machinery.Contents.{texts}
 use Rattle.columns.specs.Machinery.Lists.{fresh_list}
-use Rattle.columns.proofs.LeftInColumn.{left_at, all-values, sum-on, left_cut, left-strange, left-past, positions-few}
-use borrow.Author.Rules.{rules}
+use Rattle.columns.proofs.LeftInColumn.{left_at}
 use Rattle.columns.proofs.contents.positions_in.Given as goal
 
 abbrev pub invariant-loop-at : goal.invariant-loop-at

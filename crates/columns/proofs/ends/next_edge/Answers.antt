@@ -10,7 +10,6 @@ use Rattle.columns.specs.Machinery.Edges.{next_edge}
 use Rattle.columns.proofs.Edges.{edge-append}
 use Rattle.columns.proofs.PlanNetworks.{plan-edge}
 use Rattle.columns.proofs.Widths.{networks-append}
-use borrow.Author.Rules.{rules}
 use Rattle.columns.proofs.ends.next_edge.Goals as goal
 
 pub returns : goal.returns

@@ -1,10 +1,6 @@
-use Prim.Native.Nat.{◌-◌, ◌^◌, ◌≤◌, min}
-use mathlib.Core.Path.{◌≡◌}
 use native.Mathlib.Omega.{arith}
 use lib.Seq.{slice}
-use Rattle.columns.specs.Machinery.Plan.{edge_in}
 use Rattle.columns.proofs.PlanNetworks.{edge-most, edge-next, edge_none}
-use borrow.Author.Rules.{rules}
 use Rattle.columns.proofs.ends.plan_edge.Goals as goal
 
 pub loop-i-init : goal.loop-i-init

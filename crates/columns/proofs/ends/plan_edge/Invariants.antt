@@ -1,11 +1,8 @@
 -- The loop's invariant: the lesser of the least end so far and that of the words left is that of all words.
 use Prim.Native.Nat.{◌-◌, ◌^◌, ◌≤◌, min}
 use mathlib.Core.Path.{◌≡◌}
-use native.Mathlib.Omega.{arith}
 use lib.Seq.{slice}
 use Rattle.columns.specs.Machinery.Plan.{edge_in}
-use Rattle.columns.proofs.PlanNetworks.{edge-most, edge-next, edge_none}
-use borrow.Author.Rules.{rules}
 use Rattle.columns.proofs.ends.plan_edge.Given as goal
 
 abbrev pub invariant-loop-i : goal.invariant-loop-i

@@ -1,10 +1,9 @@
-use mathlib.Core.Path.{◌≡◌, sym, ap, ◌∙◌}
+use mathlib.Core.Path.{sym, ap, ◌∙◌}
 use mathlib.Core.List.{List}
-use Prim.Native.Nat.{ℕ, ◌+◌, ◌-◌}
+use Prim.Native.Nat.{ℕ, ◌+◌}
 use lib.Seq.{slice}
 use Rattle.columns.specs.Machinery.LastPositions.{last_positions}
 use Rattle.columns.proofs.LastPositions.{marked_next, marked-none}
-use borrow.Author.Rules.{rules}
 use Rattle.columns.proofs.last_positions.last_positions.Goals as goal
 
 pub loop-i-preserved : goal.loop-i-preserved

@@ -1,11 +1,8 @@
 -- The loop's invariant: marking the words left, in the row at hand, is marking all of them in the row at the beginning.
-use mathlib.Core.Path.{◌≡◌, sym, ap, ◌∙◌}
-use mathlib.Core.List.{List}
-use Prim.Native.Nat.{ℕ, ◌+◌, ◌-◌}
+use mathlib.Core.Path.{◌≡◌}
+use Prim.Native.Nat.{◌-◌}
 use lib.Seq.{slice}
 use Rattle.columns.specs.Machinery.LastPositions.{last_positions}
-use Rattle.columns.proofs.LastPositions.{marked_next, marked-none}
-use borrow.Author.Rules.{rules}
 use Rattle.columns.proofs.last_positions.last_positions.Given as goal
 
 abbrev pub invariant-loop-i : goal.invariant-loop-i

@@ -6,7 +6,6 @@ use lib.ListN.{length, get_or}
 use lib.Bits.{bit_or}
 use lib.Seq.{set_out}
 use Rattle.matching.specs.Machinery.Rows.{mark_row}
-use borrow.Author.Rules.{rules}
 use Rattle.columns.proofs.last_positions.marked.Goals as goal
 
 pub returns-then-p-ge-POSITIONS : goal.returns-then-p-ge-POSITIONS

@@ -1,10 +1,6 @@
-use mathlib.Core.Path.{◌≡◌, sym, ◌∙◌}
-use Prim.Native.Nat.{◌-◌}
+use mathlib.Core.Path.{sym, ◌∙◌}
 use native.Mathlib.Omega.{arith}
-use lib.ListN.{drop}
-use Rattle.columns.specs.Machinery.LastPositions.{rows_meet}
 use Rattle.columns.proofs.LastPositions.{meet-here, meet-on, meet-none}
-use borrow.Author.Rules.{rules}
 use Rattle.columns.proofs.last_positions.rows_meet.Goals as goal
 
 pub returns-then-row-i-ne0 : goal.returns-then-row-i-ne0

@@ -1,11 +1,8 @@
 -- The loop's invariant: the rows meet exactly when they do from the word at hand on.
-use mathlib.Core.Path.{◌≡◌, sym, ◌∙◌}
+use mathlib.Core.Path.{◌≡◌}
 use Prim.Native.Nat.{◌-◌}
-use native.Mathlib.Omega.{arith}
 use lib.ListN.{drop}
 use Rattle.columns.specs.Machinery.LastPositions.{rows_meet}
-use Rattle.columns.proofs.LastPositions.{meet-here, meet-on, meet-none}
-use borrow.Author.Rules.{rules}
 use Rattle.columns.proofs.last_positions.rows_meet.Given as goal
 
 abbrev pub invariant-loop-i : goal.invariant-loop-i

@@ -1,7 +1,6 @@
 -- The words below the first value are a statement and the two lists.
 use borrow.Author.Tests.{lt-ltb, le-ltb}
 use Rattle.columns.specs.Machinery.LastPositions.{word_marked}
-use borrow.Author.Rules.{rules}
 use Rattle.columns.proofs.last_positions.word_marked.Goals as goal
 
 pub returns-then-word-lt-FIRST_VALUE : goal.returns-then-word-lt-FIRST_VALUE

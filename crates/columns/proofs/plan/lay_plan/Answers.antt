@@ -1,18 +1,16 @@
-use mathlib.Core.Path.{◌≡◌, refl, sym, ap, ap₂, ◌∙◌}
+use mathlib.Core.Path.{refl, sym, ap, ap₂, ◌∙◌}
 use mathlib.Core.List.{List}
-use Prim.Native.Nat.{ℕ, ◌+◌, ◌-◌, ◌≤◌}
+use Prim.Native.Nat.{ℕ, ◌+◌}
 use native.Mathlib.Omega.{arith}
 use lib.ListN.{length, length-append}
 use lib.Seq.{sets}
-use Rattle.stored.specs.Entries.{entries_of}
 use Rattle.stored.proofs.Walking.{inside}
 use Rattle.judging.proofs.Records.{record-has-kind}
 use Rattle.columns.specs.Machinery.Lists.{moved_of, positions_of}
-use Rattle.columns.specs.Machinery.Plan.{plan_of, item_word, word_alone}
+use Rattle.columns.specs.Machinery.Plan.{item_word, word_alone}
 use Rattle.columns.proofs.LeftInColumn.{positions-few}
 use Rattle.columns.proofs.Laying.{sets-append}
 use Rattle.columns.proofs.PlanSteps.{plan_left, plan-on, plan-cut, plan-strange, plan-past}
-use borrow.Author.Rules.{rules}
 use Rattle.columns.proofs.plan.lay_plan.Goals as goal
 
 pub loop-at-init : goal.loop-at-init

@@ -1,20 +1,12 @@
 -- The loop's invariant: with the plan of what is left laid down behind the words that are, the workspace is as it is with the whole plan laid
 -- down; the room left is what that needs, and the positions passed are at most the bytes passed.
-use mathlib.Core.Path.{◌≡◌, refl, sym, ap, ap₂, ◌∙◌}
-use mathlib.Core.List.{List}
-use Prim.Native.Nat.{ℕ, ◌+◌, ◌-◌, ◌≤◌}
-use native.Mathlib.Omega.{arith}
-use lib.ListN.{length, length-append}
+use mathlib.Core.Path.{◌≡◌}
+use Prim.Native.Nat.{◌+◌, ◌-◌, ◌≤◌}
+use lib.ListN.{length}
 use lib.Seq.{sets}
 use Rattle.stored.specs.Entries.{entries_of}
-use Rattle.stored.proofs.Walking.{inside}
-use Rattle.judging.proofs.Records.{record-has-kind}
-use Rattle.columns.specs.Machinery.Lists.{moved_of, positions_of}
-use Rattle.columns.specs.Machinery.Plan.{plan_of, item_word, word_alone}
-use Rattle.columns.proofs.LeftInColumn.{positions-few}
-use Rattle.columns.proofs.Laying.{sets-append}
-use Rattle.columns.proofs.PlanSteps.{plan_left, plan-on, plan-cut, plan-strange, plan-past}
-use borrow.Author.Rules.{rules}
+use Rattle.columns.specs.Machinery.Plan.{plan_of}
+use Rattle.columns.proofs.PlanSteps.{plan_left}
 use Rattle.columns.proofs.plan.lay_plan.Given as goal
 
 abbrev pub invariant-loop-at : goal.invariant-loop-at

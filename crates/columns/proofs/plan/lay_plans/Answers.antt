@@ -7,7 +7,6 @@ use lib.Seq.{sets}
 use Rattle.stored.specs.Entries.{entries_of}
 use Rattle.columns.specs.Machinery.Plan.{plan_of, LaysPlans}
 use Rattle.columns.proofs.PlansLaid.{plans-laid}
-use borrow.Author.Rules.{rules}
 use Rattle.columns.proofs.plan.lay_plans.Goals as goal
 
 pub lay_plan-middle-requires : goal.lay_plan-middle-requires

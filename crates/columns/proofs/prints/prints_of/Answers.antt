@@ -4,7 +4,6 @@ use mathlib.Core.List.{List}
 use Prim.Native.Nat.{ℕ}
 use Rattle.columns.specs.Machinery.LastPositions.{last_positions}
 use Rattle.columns.specs.Machinery.Prints.{other_plan, prints_of}
-use borrow.Author.Rules.{rules}
 use Rattle.columns.proofs.prints.prints_of.Goals as goal
 
 pub returns : goal.returns

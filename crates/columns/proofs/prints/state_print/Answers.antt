@@ -3,7 +3,6 @@
 use mathlib.Core.Path.{sym, ◌∙◌}
 use native.Mathlib.Omega.{arith}
 use Rattle.columns.proofs.PrintWords.{sides-fit, sides-print, none-met}
-use borrow.Author.Rules.{rules}
 use Rattle.columns.proofs.prints.state_print.Goals as goal
 
 pub text_rows-own-requires : goal.text_rows-own-requires

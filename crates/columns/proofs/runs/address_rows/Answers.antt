@@ -1,10 +1,9 @@
-use mathlib.Core.Path.{◌≡◌, sym, ap, ◌∙◌}
-use Prim.Native.Nat.{◌+◌, ◌-◌}
+use mathlib.Core.Path.{sym, ap, ◌∙◌}
+use Prim.Native.Nat.{◌+◌}
 use lib.Seq.{slice}
 use Rattle.columns.specs.declared.runs.Run.{Run}
-use Rattle.columns.specs.Machinery.Plan.{in_network, fresh_run, done_run, run_plan}
+use Rattle.columns.specs.Machinery.Plan.{in_network, done_run, run_plan}
 use Rattle.columns.proofs.PlanSteps.{run-next, run_none}
-use borrow.Author.Rules.{rules}
 use Rattle.columns.proofs.runs.address_rows.Goals as goal
 
 pub loop-i-init : goal.loop-i-init

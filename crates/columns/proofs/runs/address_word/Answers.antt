@@ -3,7 +3,6 @@ use mathlib.Core.Path.{ap, ◌∙◌}
 use mathlib.Core.Bool.{Bool}
 use borrow.Author.Tests.{lt-ltb, le-ltb}
 use Rattle.columns.specs.Machinery.Plan.{seen_run, run_word}
-use borrow.Author.Rules.{rules}
 use Rattle.columns.proofs.runs.address_word.Goals as goal
 
 pub returns-then-word-lt-FIRST_VALUE : goal.returns-then-word-lt-FIRST_VALUE

@@ -1,11 +1,10 @@
-use mathlib.Core.Path.{◌≡◌, sym, ap, ◌∙◌}
-use Prim.Native.Nat.{◌+◌, ◌-◌}
+use mathlib.Core.Path.{sym, ap, ◌∙◌}
+use Prim.Native.Nat.{◌+◌}
 use lib.Seq.{slice}
 use Rattle.matching.specs.Machinery.Rows.{row_bit}
 use Rattle.columns.specs.declared.runs.Run.{Run}
-use Rattle.columns.specs.Machinery.Plan.{fresh_run, done_run, run_plan}
+use Rattle.columns.specs.Machinery.Plan.{done_run, run_plan}
 use Rattle.columns.proofs.PlanSteps.{run-next, run_none}
-use borrow.Author.Rules.{rules}
 use Rattle.columns.proofs.runs.text_rows.Goals as goal
 
 pub loop-i-init : goal.loop-i-init

@@ -1,12 +1,9 @@
 -- The loop's invariant: the run over the words left, from the run at hand, is the run over all of them from the beginning.
-use mathlib.Core.Path.{◌≡◌, sym, ap, ◌∙◌}
-use Prim.Native.Nat.{◌+◌, ◌-◌}
+use mathlib.Core.Path.{◌≡◌}
+use Prim.Native.Nat.{◌-◌}
 use lib.Seq.{slice}
 use Rattle.matching.specs.Machinery.Rows.{row_bit}
-use Rattle.columns.specs.declared.runs.Run.{Run}
-use Rattle.columns.specs.Machinery.Plan.{fresh_run, done_run, run_plan}
-use Rattle.columns.proofs.PlanSteps.{run-next, run_none}
-use borrow.Author.Rules.{rules}
+use Rattle.columns.specs.Machinery.Plan.{fresh_run, run_plan}
 use Rattle.columns.proofs.runs.text_rows.Given as goal
 
 abbrev pub invariant-loop-i : goal.invariant-loop-i

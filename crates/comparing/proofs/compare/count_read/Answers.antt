@@ -13,7 +13,6 @@ use Rattle.comparing.specs.Machinery.Survey.{Listed}
 use Rattle.comparing.specs.declared.answers.Counting.TheVariants as C
 use Rattle.comparing.proofs.compare.NotWide.{not_wide}
 use Rattle.comparing.proofs.compare.Answering.{answer-wide, answer-crowded, answer-over, answer-yes, survey-crowded, survey-listed, within-kinds, counts-gaps}
-use borrow.Author.Rules.{rules}
 use Rattle.comparing.proofs.compare.count_read.Goals as goal
 
 pub returns-then-wide-lt-COLUMNS : goal.returns-then-wide-lt-COLUMNS

@@ -1,11 +1,9 @@
 -- What the reader says of each table decides first.
 use mathlib.Core.Path.{refl, sym, ◌∙◌}
-use Rattle.judging.specs.Requests.{number}
 use Rattle.comparing.specs.Compared.{IsCount}
 use Rattle.comparing.specs.declared.answers.Counting.TheVariants as C
 use Rattle.comparing.proofs.compare.BothRead.{both_read}
 use Rattle.comparing.proofs.compare.Answering.{answer-first, answer-second, answer-both}
-use borrow.Author.Rules.{rules}
 use Rattle.comparing.proofs.compare.count_tables.Goals as goal
 
 pub count_read-requires : goal.count_read-requires

@@ -12,7 +12,6 @@ use Rattle.comparing.specs.Machinery.Kinds.{prints_in}
 use Rattle.comparing.specs.Machinery.Survey.{Listed}
 use Rattle.comparing.proofs.compare.NotWide.{not_wide}
 use Rattle.comparing.proofs.compare.Answering.{answer-wide, answer-crowded, answer-over, answer-yes, answer-none, answer-shown, survey-crowded, survey-listed, within-kinds, shows-gap}
-use borrow.Author.Rules.{rules}
 use Rattle.comparing.proofs.compare.find_read.Goals as goal
 
 pub returns-then-wide-lt-COLUMNS : goal.returns-then-wide-lt-COLUMNS
@@ -104,8 +103,7 @@ show_gap-shape-requires c =
     survey-listed one two words c.survey-found.result false c.if-found.false c.if-found-2.false c.survey-found.ensures in
     let few : length one + length two ≤ 64 =
     omega (arith, c.requires.0.few, c.requires.0.more) in
-    let a = c.args in
-    (
+    let a = c.args in (
       c.requires.0,
       (not_wide (one ++ two) a.words.now narrow c.requires.1).narrow,
       listed.uncrowded,

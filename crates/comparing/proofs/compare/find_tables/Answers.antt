@@ -1,10 +1,8 @@
 -- What the reader says of each table decides first.
 use mathlib.Core.Path.{refl, sym, ◌∙◌}
-use Rattle.judging.specs.Requests.{number}
 use Rattle.comparing.specs.Compared.{IsAnswer, keeps}
 use Rattle.comparing.proofs.compare.BothRead.{both_read}
 use Rattle.comparing.proofs.compare.Answering.{answer-first, answer-second, answer-both}
-use borrow.Author.Rules.{rules}
 use Rattle.comparing.proofs.compare.find_tables.Goals as goal
 
 pub find_read-requires : goal.find_read-requires

@@ -1,12 +1,11 @@
-use Prim.Native.Nat.{ℕ, ◌-◌, ◌≤◌}
+use Prim.Native.Nat.{ℕ, ◌-◌}
 use mathlib.Core.Path.{◌≡◌, refl, sym, ◌∙◌, ap}
 use mathlib.Core.List.{◌++◌}
 use native.Mathlib.Omega.{arith}
 use Rattle.judging.specs.Judging.{rows_of}
 use Rattle.comparing.specs.Columns.{is_wide}
-use Rattle.comparing.specs.Compared.{lowest, first_wide}
+use Rattle.comparing.specs.Compared.{lowest}
 use Rattle.comparing.proofs.compare.Narrowing.{lowest-here, lowest-on}
-use borrow.Author.Rules.{rules}
 use Rattle.comparing.proofs.compare.first_wide.Goals as goal
 
 pub loop-column-init : goal.loop-column-init

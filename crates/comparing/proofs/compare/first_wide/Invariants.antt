@@ -1,13 +1,10 @@
 -- No column before the one at hand is wide: that is the invariant.
-use Prim.Native.Nat.{ℕ, ◌-◌, ◌≤◌}
-use mathlib.Core.Path.{◌≡◌, refl, sym, ◌∙◌, ap}
+use Prim.Native.Nat.{◌-◌, ◌≤◌}
+use mathlib.Core.Path.{◌≡◌}
 use mathlib.Core.List.{◌++◌}
-use native.Mathlib.Omega.{arith}
 use Rattle.judging.specs.Judging.{rows_of}
 use Rattle.comparing.specs.Columns.{is_wide}
 use Rattle.comparing.specs.Compared.{lowest, first_wide}
-use Rattle.comparing.proofs.compare.Narrowing.{lowest-here, lowest-on}
-use borrow.Author.Rules.{rules}
 use Rattle.comparing.proofs.compare.first_wide.Given as goal
 
 abbrev pub invariant-loop-column : goal.invariant-loop-column

@@ -6,7 +6,6 @@ use mathlib.Core.Bool.{◌||◌}
 use lib.Dec.{ltb}
 use Rattle.comparing.specs.Compared.{IsAnswer, keeps, workspace_words, value_bytes}
 use Rattle.comparing.proofs.compare.Answering.{answer-short, answer-long, left-short, left-long, short-first, short-second, long-both}
-use borrow.Author.Rules.{rules}
 use Rattle.comparing.proofs.compare.gap.Goals as goal
 
 pub returns-then-workspace-lt-WORKSPACE_WORDS : goal.returns-then-workspace-lt-WORKSPACE_WORDS

@@ -7,7 +7,6 @@ use borrow.Author.Tests.{lt-ltb, le-ltb}
 use Rattle.comparing.specs.Compared.{IsCount, workspace_words}
 use Rattle.comparing.specs.declared.answers.Counting.TheVariants as C
 use Rattle.comparing.proofs.compare.Answering.{answer-short, answer-long, left-short, left-long}
-use borrow.Author.Rules.{rules}
 use Rattle.comparing.proofs.compare.gap_count.Goals as goal
 
 pub returns-then-workspace-lt-WORKSPACE_WORDS : goal.returns-then-workspace-lt-WORKSPACE_WORDS
@@ -18,5 +17,8 @@ returns-then-workspace-lt-WORKSPACE_WORDS c =
 pub returns : goal.returns
 returns c =
     let a = c.args in
-    let long = le-ltb (length a.workspace.now) workspace_words c.if-workspace-lt-WORKSPACE_WORDS.false in record { answer = answer-long C.Refused IsCount a.first.now a.second.now _ (ltb (length a.workspace.now) workspace_words) long c.count_tables-answer.ensures; left = left-long (ltb (length a.workspace.now) workspace_words) a.workspace.now _ long
-          (c.clear.ensures ∙ ap (λ (n : ℕ). replicate n 0) c.count_tables-answer.auto.words) }
+    let long = le-ltb (length a.workspace.now) workspace_words c.if-workspace-lt-WORKSPACE_WORDS.false in record {
+      answer = answer-long C.Refused IsCount a.first.now a.second.now _ (ltb (length a.workspace.now) workspace_words) long c.count_tables-answer.ensures;
+      left = left-long (ltb (length a.workspace.now) workspace_words) a.workspace.now _ long
+          (c.clear.ensures ∙ ap (λ (n : ℕ). replicate n 0) c.count_tables-answer.auto.words);
+    }

@@ -4,7 +4,6 @@ use mathlib.Core.Path.{◌∙◌, ap₂}
 use lib.Dec.{ltb}
 use Rattle.judging.specs.Judging.{rows_of}
 use Rattle.comparing.proofs.compare.Narrowing.{wide-strings, wide-networks}
-use borrow.Author.Rules.{rules}
 use Rattle.comparing.proofs.compare.is_wide.Goals as goal
 
 pub returns-then-column-lt-ADDRESSES : goal.returns-then-column-lt-ADDRESSES

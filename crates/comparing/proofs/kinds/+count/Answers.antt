@@ -4,7 +4,7 @@ use Rattle.states.specs.Machinery.Rows.{prints_at}
 use Rattle.comparing.specs.Machinery.Kinds.{is_gap_rows, prints_in}
 use Rattle.comparing.proofs.kinds.GapRows.{count_most}
 use Rattle.comparing.proofs.kinds.Settling.{settled-once, kinds-ahead}
-use Rattle.comparing.proofs.kinds.KindsInWords.{up, next-within, fewer-kinds, gaps_behind, gaps-start, gaps-on, gaps-done}
+use Rattle.comparing.proofs.kinds.KindsInWords.{up, fewer-kinds, gaps_behind, gaps-start, gaps-on, gaps-done}
 use Rattle.comparing.proofs.kinds.+count.Goals as goal
 
 pub loop-i-init : goal.loop-i-init

@@ -1,6 +1,5 @@
 -- The recursion over the columns, from the first on and with all rows left.
 use native.Mathlib.Omega.{arith}
-use borrow.Author.Rules.{rules}
 use Rattle.comparing.proofs.kinds.count_gaps.Goals as goal
 
 pub kinds_of-kinds-requires : goal.kinds_of-kinds-requires

@@ -1,13 +1,8 @@
-use Prim.Native.Nat.{◌-◌, ◌^◌, ◌≤◌, ◌<◌}
+use Prim.Native.Nat.{◌<◌}
 use mathlib.Core.Path.{refl}
-use mathlib.Core.List.{map}
 use native.Mathlib.Omega.{arith}
-use lib.ListN.{length}
-use Rattle.comparing.specs.Compared.{product, most_kinds}
-use Rattle.comparing.specs.Machinery.Kinds.{prints_along, prints_in}
 use Rattle.comparing.proofs.kinds.KindsInWords.{up, fewer-kinds, along-on}
-use Rattle.comparing.proofs.kinds.GapPrints.{Laid, laid_on, laid_done, along-end, along-empty}
-use borrow.Author.Rules.{rules}
+use Rattle.comparing.proofs.kinds.GapPrints.{laid_on, laid_done, along-end, along-empty}
 use Rattle.comparing.proofs.kinds.gap_prints.Goals as goal
 
 pub kinds_of-kinds-requires : goal.kinds_of-kinds-requires

@@ -1,15 +1,11 @@
 -- The loop's invariant: the footprints of the columns passed are laid, and those that are still to come are the footprints of what is left
 -- of k by the rows left. At a column without footprints they are all 0, as they are in the array already.
-use Prim.Native.Nat.{◌-◌, ◌^◌, ◌≤◌, ◌<◌}
-use mathlib.Core.Path.{refl}
+use Prim.Native.Nat.{◌-◌, ◌^◌, ◌≤◌}
 use mathlib.Core.List.{map}
-use native.Mathlib.Omega.{arith}
 use lib.ListN.{length}
 use Rattle.comparing.specs.Compared.{product, most_kinds}
 use Rattle.comparing.specs.Machinery.Kinds.{prints_along, prints_in}
-use Rattle.comparing.proofs.kinds.KindsInWords.{up, fewer-kinds, along-on}
-use Rattle.comparing.proofs.kinds.GapPrints.{Laid, laid_on, laid_done, along-end, along-empty}
-use borrow.Author.Rules.{rules}
+use Rattle.comparing.proofs.kinds.GapPrints.{Laid}
 use Rattle.comparing.proofs.kinds.gap_prints.Given as goal
 
 abbrev pub invariant-loop-column : goal.invariant-loop-column

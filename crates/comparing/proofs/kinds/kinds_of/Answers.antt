@@ -1,9 +1,8 @@
-use Prim.Native.Nat.{ℕ, suc, ◌+◌, ◌-◌, ◌*◌, ◌%◌, ◌^◌, ◌≤◌, ◌<◌}
+use Prim.Native.Nat.{ℕ, suc, ◌+◌, ◌-◌, ◌*◌, ◌%◌, ◌^◌, ◌<◌}
 use mathlib.Core.Path.{◌≡◌, refl, sym, ap, ◌∙◌}
 use native.Mathlib.Omega.{arith}
 use lib.ListN.{get_or}
-use Rattle.comparing.proofs.kinds.Settling.{nine_of, RightFrom, right-last, right-more, kinds_on, kinds-step, kinds-low}
-use borrow.Author.Rules.{rules}
+use Rattle.comparing.proofs.kinds.Settling.{nine_of, right-last, right-more, kinds_on, kinds-step, kinds-low}
 use Rattle.comparing.proofs.kinds.kinds_of.Goals as goal
 
 pub loop-behind-init : goal.loop-behind-init

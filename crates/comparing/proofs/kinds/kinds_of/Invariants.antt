@@ -1,10 +1,6 @@
 -- From the last column down: the kinds of the columns from one on are its footprints times the kinds of the columns behind it.
-use Prim.Native.Nat.{ℕ, suc, ◌+◌, ◌-◌, ◌*◌, ◌%◌, ◌^◌, ◌≤◌, ◌<◌}
-use mathlib.Core.Path.{◌≡◌, refl, sym, ap, ◌∙◌}
-use native.Mathlib.Omega.{arith}
-use lib.ListN.{get_or}
-use Rattle.comparing.proofs.kinds.Settling.{nine_of, RightFrom, right-last, right-more, kinds_on, kinds-step, kinds-low}
-use borrow.Author.Rules.{rules}
+use Prim.Native.Nat.{◌≤◌}
+use Rattle.comparing.proofs.kinds.Settling.{RightFrom, kinds_on}
 use Rattle.comparing.proofs.kinds.kinds_of.Given as goal
 
 abbrev pub invariant-loop-behind : goal.invariant-loop-behind

@@ -1,9 +1,8 @@
-use Prim.Native.Nat.{ℕ, ◌-◌, ◌≤◌}
+use Prim.Native.Nat.{ℕ}
 use mathlib.Core.Path.{◌≡◌, refl, sym, ap, ◌∙◌}
 use native.Mathlib.Omega.{arith}
 use Rattle.comparing.specs.Machinery.Kinds.{prints_between, meet_all}
 use Rattle.comparing.proofs.survey.AddingPrints.{prints-none, prints-next}
-use borrow.Author.Rules.{rules}
 use Rattle.comparing.proofs.kinds.meet_column.Goals as goal
 
 pub loop-i-init : goal.loop-i-init

@@ -1,10 +1,7 @@
 -- The invariant: what the footprints from i on leave of the rows left is what all footprints leave of the set.
-use Prim.Native.Nat.{ℕ, ◌-◌, ◌≤◌}
-use mathlib.Core.Path.{◌≡◌, refl, sym, ap, ◌∙◌}
-use native.Mathlib.Omega.{arith}
+use Prim.Native.Nat.{◌-◌, ◌≤◌}
+use mathlib.Core.Path.{◌≡◌}
 use Rattle.comparing.specs.Machinery.Kinds.{prints_between, meet_all}
-use Rattle.comparing.proofs.survey.AddingPrints.{prints-none, prints-next}
-use borrow.Author.Rules.{rules}
 use Rattle.comparing.proofs.kinds.meet_column.Given as goal
 
 abbrev pub invariant-loop-i : goal.invariant-loop-i

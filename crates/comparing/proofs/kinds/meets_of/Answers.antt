@@ -1,11 +1,10 @@
-use Prim.Native.Nat.{ℕ, ◌+◌, ◌-◌, ◌^◌, ◌≤◌, ◌<◌}
+use Prim.Native.Nat.{ℕ, ◌+◌, ◌-◌, ◌^◌, ◌<◌}
 use mathlib.Core.Path.{◌≡◌, refl, sym, ap, ◌∙◌}
 use native.Mathlib.Omega.{arith}
 use lib.ListN.{get_or}
 use Rattle.comparing.specs.Machinery.Kinds.{prints_between, prints_in, meet_all, meet_of}
-use Rattle.comparing.proofs.kinds.Settling.{nine_of, RightFrom, right-last, right-more, meets-step}
+use Rattle.comparing.proofs.kinds.Settling.{nine_of, right-last, right-more, meets-step}
 use Rattle.comparing.proofs.kinds.KindsInWords.{up, next-within}
-use borrow.Author.Rules.{rules}
 use Rattle.comparing.proofs.kinds.meets_of.Goals as goal
 
 pub loop-behind-init : goal.loop-behind-init

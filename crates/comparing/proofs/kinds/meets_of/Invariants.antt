@@ -1,12 +1,7 @@
 -- From the last column down: the rows that all footprints from a column on have are those of the columns behind it that its own have too.
-use Prim.Native.Nat.{ℕ, ◌+◌, ◌-◌, ◌^◌, ◌≤◌, ◌<◌}
-use mathlib.Core.Path.{◌≡◌, refl, sym, ap, ◌∙◌}
-use native.Mathlib.Omega.{arith}
-use lib.ListN.{get_or}
-use Rattle.comparing.specs.Machinery.Kinds.{prints_between, prints_in, meet_all, meet_of}
-use Rattle.comparing.proofs.kinds.Settling.{nine_of, RightFrom, right-last, right-more, meets-step}
-use Rattle.comparing.proofs.kinds.KindsInWords.{up, next-within}
-use borrow.Author.Rules.{rules}
+use Prim.Native.Nat.{◌≤◌}
+use Rattle.comparing.specs.Machinery.Kinds.{prints_in, meet_of}
+use Rattle.comparing.proofs.kinds.Settling.{RightFrom}
 use Rattle.comparing.proofs.kinds.meets_of.Given as goal
 
 abbrev pub invariant-loop-behind : goal.invariant-loop-behind

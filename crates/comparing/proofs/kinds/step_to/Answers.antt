@@ -1,20 +1,18 @@
-use Prim.Native.Nat.{ℕ, ◌+◌, ◌-◌, ◌≤◌, ◌<◌}
-use mathlib.Core.Path.{◌≡◌, sym, ◌∙◌, ap}
+use Prim.Native.Nat.{ℕ, ◌+◌, ◌-◌, ◌<◌}
+use mathlib.Core.Path.{sym, ◌∙◌, ap}
 use native.Mathlib.Omega.{arith}
 use lib.ListN.{length}
 use Rattle.states.specs.Machinery.Rows.{prints_at}
-use Rattle.comparing.specs.Machinery.Kinds.{step_of, prints_in}
 use Rattle.comparing.proofs.kinds.KindsInWords.{up, next-within, fewer-kinds, step_left, step_start, step-here, step-on, step-done}
 use borrow.Author.Rules.{rules}
 use Rattle.comparing.proofs.kinds.step_to.Goals as goal
 
 pub loop-i-init : goal.loop-i-init
-loop-i-init c =
-    (
-      omega arith,
-      up c.requires.0 c.args.column c.requires.4,
-      step_start c.args.sides c.requires.0 c.args.column c.requires.4 c.args.rows c.args.k,
-    )
+loop-i-init c = (
+  omega arith,
+  up c.requires.0 c.args.column c.requires.4,
+  step_start c.args.sides c.requires.0 c.args.column c.requires.4 c.args.rows c.args.k,
+)
 
 pub overflow_add-print : goal.overflow_add-print
 overflow_add-print c =

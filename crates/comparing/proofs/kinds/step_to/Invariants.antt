@@ -1,13 +1,9 @@
 -- The loop's invariant: where gap k lies in the column is where what is left of k lies among the footprints from i on; with each footprint
 -- passed, its gaps are taken off.
-use Prim.Native.Nat.{ℕ, ◌+◌, ◌-◌, ◌≤◌, ◌<◌}
-use mathlib.Core.Path.{◌≡◌, sym, ◌∙◌, ap}
-use native.Mathlib.Omega.{arith}
-use lib.ListN.{length}
-use Rattle.states.specs.Machinery.Rows.{prints_at}
+use Prim.Native.Nat.{◌-◌, ◌≤◌}
+use mathlib.Core.Path.{◌≡◌}
 use Rattle.comparing.specs.Machinery.Kinds.{step_of, prints_in}
-use Rattle.comparing.proofs.kinds.KindsInWords.{up, next-within, fewer-kinds, step_left, step_start, step-here, step-on, step-done}
-use borrow.Author.Rules.{rules}
+use Rattle.comparing.proofs.kinds.KindsInWords.{step_left}
 use Rattle.comparing.proofs.kinds.step_to.Given as goal
 
 abbrev pub invariant-loop-i : goal.invariant-loop-i

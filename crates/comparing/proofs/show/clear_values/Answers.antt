@@ -1,10 +1,9 @@
-use Prim.Native.Nat.{ℕ, ◌-◌, ◌≤◌}
+use Prim.Native.Nat.{ℕ}
 use mathlib.Core.Path.{◌≡◌, refl, ◌∙◌, ap}
 use mathlib.Core.List.{List}
 use native.Mathlib.Omega.{arith}
-use lib.ListN.{length, set, length-set}
+use lib.ListN.{set, length-set}
 use Rattle.states.proofs.Clearing.{zeros, zeros-more}
-use borrow.Author.Rules.{rules}
 use Rattle.comparing.proofs.show.clear_values.Goals as goal
 
 pub loop-i-init : goal.loop-i-init

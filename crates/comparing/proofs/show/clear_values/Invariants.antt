@@ -1,11 +1,8 @@
 -- The bytes before the index are zero and the others are as they were: that is the invariant.
-use Prim.Native.Nat.{ℕ, ◌-◌, ◌≤◌}
-use mathlib.Core.Path.{◌≡◌, refl, ◌∙◌, ap}
-use mathlib.Core.List.{List}
-use native.Mathlib.Omega.{arith}
-use lib.ListN.{length, set, length-set}
-use Rattle.states.proofs.Clearing.{zeros, zeros-more}
-use borrow.Author.Rules.{rules}
+use Prim.Native.Nat.{◌-◌, ◌≤◌}
+use mathlib.Core.Path.{◌≡◌}
+use lib.ListN.{length}
+use Rattle.states.proofs.Clearing.{zeros}
 use Rattle.comparing.proofs.show.clear_values.Given as goal
 
 abbrev pub invariant-loop-i : goal.invariant-loop-i

@@ -1,4 +1,3 @@
-use Prim.Native.Nat.{ℕ, ◌-◌, ◌≤◌, ◌<◌}
 use mathlib.Core.Path.{◌≡◌, sym, ◌∙◌}
 use mathlib.Core.List.{◌++◌}
 use native.Mathlib.Omega.{arith}
@@ -10,7 +9,6 @@ use Rattle.columns.specs.Values.{values_in}
 use Rattle.comparing.specs.Machinery.Product.{print_of}
 use Rattle.comparing.proofs.survey.Exploring.{string-reaches}
 use Rattle.comparing.proofs.show.FirstFound.{none-next}
-use borrow.Author.Rules.{rules}
 use Rattle.comparing.proofs.show.find_state.Goals as goal
 
 pub loop-i-init : goal.loop-i-init

@@ -1,17 +1,10 @@
 -- None of the states before the one at hand has the footprint: that is the invariant.
 use Prim.Native.Nat.{ℕ, ◌-◌, ◌≤◌, ◌<◌}
-use mathlib.Core.Path.{◌≡◌, sym, ◌∙◌}
-use mathlib.Core.List.{◌++◌}
-use native.Mathlib.Omega.{arith}
-use Rattle.matching.specs.Machinery.Codes.{codes_of}
+use mathlib.Core.Path.{◌≡◌}
 use Rattle.judging.specs.Requests.{text}
 use Rattle.judging.specs.Judging.{rows_of}
 use Rattle.states.specs.Machinery.Search.{string_of}
-use Rattle.columns.specs.Values.{values_in}
 use Rattle.comparing.specs.Machinery.Product.{print_of}
-use Rattle.comparing.proofs.survey.Exploring.{string-reaches}
-use Rattle.comparing.proofs.show.FirstFound.{none-next}
-use borrow.Author.Rules.{rules}
 use Rattle.comparing.proofs.show.find_state.Given as goal
 
 abbrev pub invariant-loop-i : goal.invariant-loop-i

@@ -1,16 +1,14 @@
-use Prim.Native.Nat.{ℕ, ◌-◌, ◌^◌, ◌≤◌}
+use Prim.Native.Nat.{ℕ, ◌^◌}
 use mathlib.Core.Path.{◌≡◌, sym, ◌∙◌, ap, subst}
 use mathlib.Core.List.{◌++◌}
 use native.Mathlib.Omega.{arith}
-use Rattle.judging.specs.Requests.{absent, is_present}
+use Rattle.judging.specs.Requests.{is_present}
 use Rattle.judging.specs.Judging.{rows_of}
 use Rattle.columns.specs.Values.{networks_in}
 use Rattle.columns.proofs.Edges.{edge-high, next-edge-above}
 use Rattle.comparing.specs.Compared.{address_in}
-use Rattle.comparing.specs.Machinery.Product.{print_of}
 use Rattle.comparing.specs.Machinery.ShownValues.{NoneBelow}
 use Rattle.comparing.proofs.show.FirstFound.{absence-found, address-found, none_found, none_more}
-use borrow.Author.Rules.{rules}
 use Rattle.comparing.proofs.show.show_address.Goals as goal
 
 pub absent_print-requires : goal.absent_print-requires

@@ -1,18 +1,11 @@
 -- No address below the one at hand has the footprint, and absence has not: that is the invariant. An address between two edges is like the
 -- edge below it.
-use Prim.Native.Nat.{ℕ, ◌-◌, ◌^◌, ◌≤◌}
-use mathlib.Core.Path.{◌≡◌, sym, ◌∙◌, ap, subst}
-use mathlib.Core.List.{◌++◌}
-use native.Mathlib.Omega.{arith}
-use Rattle.judging.specs.Requests.{absent, is_present}
+use Prim.Native.Nat.{◌-◌, ◌^◌, ◌≤◌}
+use mathlib.Core.Path.{◌≡◌}
+use Rattle.judging.specs.Requests.{absent}
 use Rattle.judging.specs.Judging.{rows_of}
-use Rattle.columns.specs.Values.{networks_in}
-use Rattle.columns.proofs.Edges.{edge-high, next-edge-above}
-use Rattle.comparing.specs.Compared.{address_in}
 use Rattle.comparing.specs.Machinery.Product.{print_of}
 use Rattle.comparing.specs.Machinery.ShownValues.{NoneBelow}
-use Rattle.comparing.proofs.show.FirstFound.{absence-found, address-found, none_found, none_more}
-use borrow.Author.Rules.{rules}
 use Rattle.comparing.proofs.show.show_address.Given as goal
 
 abbrev pub invariant-loop-x : goal.invariant-loop-x

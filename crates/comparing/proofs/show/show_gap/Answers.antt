@@ -9,92 +9,84 @@ use Rattle.columns.proofs.PlansLaid.{addresses-fit}
 use Rattle.comparing.specs.Machinery.ShownValues.{FirstWith}
 use Rattle.comparing.proofs.show.AlongPath.{first-at}
 use Rattle.comparing.proofs.show.LaidValues.{gap-shown}
-use borrow.Author.Rules.{rules}
 use Rattle.comparing.proofs.show.show_gap.Goals as goal
 
 pub show_text-principal-requires : goal.show_text-principal-requires
-show_text-principal-requires c =
-    (
-      c.requires.0,
-      c.requires.1 0 (omega arith),
-      c.requires.2 0 (omega arith),
-      omega arith,
-      omega (arith, c.requires.3),
-      omega (arith, c.requires.4, c.clear_values.auto.values),
-      (column_of c.requires.5.0 0, first-at (rows_of c.args.first.now) (rows_of c.args.second.now) c.args.prints c.requires.5.0 c.requires.5.1 0 (omega arith)),
-    )
+show_text-principal-requires c = (
+  c.requires.0,
+  c.requires.1 0 (omega arith),
+  c.requires.2 0 (omega arith),
+  omega arith,
+  omega (arith, c.requires.3),
+  omega (arith, c.requires.4, c.clear_values.auto.values),
+  (column_of c.requires.5.0 0, first-at (rows_of c.args.first.now) (rows_of c.args.second.now) c.args.prints c.requires.5.0 c.requires.5.1 0 (omega arith)),
+)
 
 pub show_text-action-requires : goal.show_text-action-requires
-show_text-action-requires c =
-    (
-      c.requires.0,
-      c.requires.1 1 (omega arith),
-      c.requires.2 1 (omega arith),
-      omega arith,
-      omega (arith, c.requires.3, c.show_text-principal.auto.words),
-      omega (arith, c.requires.4, c.clear_values.auto.values, c.show_text-principal.auto.values),
-      (column_of c.requires.5.0 1, first-at (rows_of c.args.first.now) (rows_of c.args.second.now) c.args.prints c.requires.5.0 c.requires.5.1 1 (omega arith)),
-    )
+show_text-action-requires c = (
+  c.requires.0,
+  c.requires.1 1 (omega arith),
+  c.requires.2 1 (omega arith),
+  omega arith,
+  omega (arith, c.requires.3, c.show_text-principal.auto.words),
+  omega (arith, c.requires.4, c.clear_values.auto.values, c.show_text-principal.auto.values),
+  (column_of c.requires.5.0 1, first-at (rows_of c.args.first.now) (rows_of c.args.second.now) c.args.prints c.requires.5.0 c.requires.5.1 1 (omega arith)),
+)
 
 pub show_text-resource-requires : goal.show_text-resource-requires
-show_text-resource-requires c =
-    (
-      c.requires.0,
-      c.requires.1 2 (omega arith),
-      c.requires.2 2 (omega arith),
-      omega arith,
-      omega (arith, c.requires.3, c.show_text-principal.auto.words, c.show_text-action.auto.words),
-      omega (arith, c.requires.4, c.clear_values.auto.values, c.show_text-principal.auto.values, c.show_text-action.auto.values),
-      (column_of c.requires.5.0 2, first-at (rows_of c.args.first.now) (rows_of c.args.second.now) c.args.prints c.requires.5.0 c.requires.5.1 2 (omega arith)),
-    )
+show_text-resource-requires c = (
+  c.requires.0,
+  c.requires.1 2 (omega arith),
+  c.requires.2 2 (omega arith),
+  omega arith,
+  omega (arith, c.requires.3, c.show_text-principal.auto.words, c.show_text-action.auto.words),
+  omega (arith, c.requires.4, c.clear_values.auto.values, c.show_text-principal.auto.values, c.show_text-action.auto.values),
+  (column_of c.requires.5.0 2, first-at (rows_of c.args.first.now) (rows_of c.args.second.now) c.args.prints c.requires.5.0 c.requires.5.1 2 (omega arith)),
+)
 
 pub show_text-vpc-requires : goal.show_text-vpc-requires
-show_text-vpc-requires c =
-    (
-      c.requires.0,
-      c.requires.1 3 (omega arith),
-      c.requires.2 3 (omega arith),
-      omega arith,
-      omega (arith, c.requires.3, c.show_text-principal.auto.words, c.show_text-action.auto.words, c.show_text-resource.auto.words),
-      omega (arith, c.requires.4, c.clear_values.auto.values, c.show_text-principal.auto.values, c.show_text-action.auto.values, c.show_text-resource.auto.values),
-      (column_of c.requires.5.0 3, first-at (rows_of c.args.first.now) (rows_of c.args.second.now) c.args.prints c.requires.5.0 c.requires.5.1 3 (omega arith)),
-    )
+show_text-vpc-requires c = (
+  c.requires.0,
+  c.requires.1 3 (omega arith),
+  c.requires.2 3 (omega arith),
+  omega arith,
+  omega (arith, c.requires.3, c.show_text-principal.auto.words, c.show_text-action.auto.words, c.show_text-resource.auto.words),
+  omega (arith, c.requires.4, c.clear_values.auto.values, c.show_text-principal.auto.values, c.show_text-action.auto.values, c.show_text-resource.auto.values),
+  (column_of c.requires.5.0 3, first-at (rows_of c.args.first.now) (rows_of c.args.second.now) c.args.prints c.requires.5.0 c.requires.5.1 3 (omega arith)),
+)
 
 pub show_text-prefix-requires : goal.show_text-prefix-requires
-show_text-prefix-requires c =
-    (
-      c.requires.0,
-      c.requires.1 4 (omega arith),
-      c.requires.2 4 (omega arith),
-      omega arith,
-      omega (arith, c.requires.3, c.show_text-principal.auto.words, c.show_text-action.auto.words, c.show_text-resource.auto.words, c.show_text-vpc.auto.words),
-      omega (arith, c.requires.4, c.clear_values.auto.values, c.show_text-principal.auto.values, c.show_text-action.auto.values, c.show_text-resource.auto.values, c.show_text-vpc.auto.values),
-      (column_of c.requires.5.0 4, first-at (rows_of c.args.first.now) (rows_of c.args.second.now) c.args.prints c.requires.5.0 c.requires.5.1 4 (omega arith)),
-    )
+show_text-prefix-requires c = (
+  c.requires.0,
+  c.requires.1 4 (omega arith),
+  c.requires.2 4 (omega arith),
+  omega arith,
+  omega (arith, c.requires.3, c.show_text-principal.auto.words, c.show_text-action.auto.words, c.show_text-resource.auto.words, c.show_text-vpc.auto.words),
+  omega (arith, c.requires.4, c.clear_values.auto.values, c.show_text-principal.auto.values, c.show_text-action.auto.values, c.show_text-resource.auto.values, c.show_text-vpc.auto.values),
+  (column_of c.requires.5.0 4, first-at (rows_of c.args.first.now) (rows_of c.args.second.now) c.args.prints c.requires.5.0 c.requires.5.1 4 (omega arith)),
+)
 
 pub show_text-vpce-requires : goal.show_text-vpce-requires
-show_text-vpce-requires c =
-    (
-      c.requires.0,
-      c.requires.1 5 (omega arith),
-      c.requires.2 5 (omega arith),
-      omega arith,
-      omega (arith, c.requires.3, c.show_text-principal.auto.words, c.show_text-action.auto.words, c.show_text-resource.auto.words, c.show_text-vpc.auto.words, c.show_text-prefix.auto.words),
-      omega (arith, c.requires.4, c.clear_values.auto.values, c.show_text-principal.auto.values, c.show_text-action.auto.values, c.show_text-resource.auto.values, c.show_text-vpc.auto.values, c.show_text-prefix.auto.values),
-      (column_of c.requires.5.0 5, first-at (rows_of c.args.first.now) (rows_of c.args.second.now) c.args.prints c.requires.5.0 c.requires.5.1 5 (omega arith)),
-    )
+show_text-vpce-requires c = (
+  c.requires.0,
+  c.requires.1 5 (omega arith),
+  c.requires.2 5 (omega arith),
+  omega arith,
+  omega (arith, c.requires.3, c.show_text-principal.auto.words, c.show_text-action.auto.words, c.show_text-resource.auto.words, c.show_text-vpc.auto.words, c.show_text-prefix.auto.words),
+  omega (arith, c.requires.4, c.clear_values.auto.values, c.show_text-principal.auto.values, c.show_text-action.auto.values, c.show_text-resource.auto.values, c.show_text-vpc.auto.values, c.show_text-prefix.auto.values),
+  (column_of c.requires.5.0 5, first-at (rows_of c.args.first.now) (rows_of c.args.second.now) c.args.prints c.requires.5.0 c.requires.5.1 5 (omega arith)),
+)
 
 pub show_text-referer-requires : goal.show_text-referer-requires
-show_text-referer-requires c =
-    (
-      c.requires.0,
-      c.requires.1 6 (omega arith),
-      c.requires.2 6 (omega arith),
-      omega arith,
-      omega (arith, c.requires.3, c.show_text-principal.auto.words, c.show_text-action.auto.words, c.show_text-resource.auto.words, c.show_text-vpc.auto.words, c.show_text-prefix.auto.words, c.show_text-vpce.auto.words),
-      omega (arith, c.requires.4, c.clear_values.auto.values, c.show_text-principal.auto.values, c.show_text-action.auto.values, c.show_text-resource.auto.values, c.show_text-vpc.auto.values, c.show_text-prefix.auto.values, c.show_text-vpce.auto.values),
-      (column_of c.requires.5.0 6, first-at (rows_of c.args.first.now) (rows_of c.args.second.now) c.args.prints c.requires.5.0 c.requires.5.1 6 (omega arith)),
-    )
+show_text-referer-requires c = (
+  c.requires.0,
+  c.requires.1 6 (omega arith),
+  c.requires.2 6 (omega arith),
+  omega arith,
+  omega (arith, c.requires.3, c.show_text-principal.auto.words, c.show_text-action.auto.words, c.show_text-resource.auto.words, c.show_text-vpc.auto.words, c.show_text-prefix.auto.words, c.show_text-vpce.auto.words),
+  omega (arith, c.requires.4, c.clear_values.auto.values, c.show_text-principal.auto.values, c.show_text-action.auto.values, c.show_text-resource.auto.values, c.show_text-vpc.auto.values, c.show_text-prefix.auto.values, c.show_text-vpce.auto.values),
+  (column_of c.requires.5.0 6, first-at (rows_of c.args.first.now) (rows_of c.args.second.now) c.args.prints c.requires.5.0 c.requires.5.1 6 (omega arith)),
+)
 
 pub lay_plans-plans-requires : goal.lay_plans-plans-requires
 lay_plans-plans-requires c =

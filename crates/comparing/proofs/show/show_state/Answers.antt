@@ -11,7 +11,6 @@ use Rattle.states.proofs.StringsOfRows.{keyed}
 use Rattle.columns.specs.Values.{values_in}
 use Rattle.columns.proofs.PlansLaid.{prepared}
 use Rattle.comparing.proofs.show.FirstFound.{codes-few, starts-low, string-found, string-short}
-use borrow.Author.Rules.{rules}
 use Rattle.comparing.proofs.show.show_state.Goals as goal
 
 pub prints_of-prints-requires : goal.prints_of-prints-requires

@@ -5,7 +5,6 @@ use Prim.Native.Nat.{ℕ}
 use mathlib.Core.Bool.{true, false}
 use mathlib.Core.List.{◌++◌}
 use native.Mathlib.Omega.{arith}
-use lib.ListN.{length}
 use Rattle.judging.specs.Requests.{Value}
 use Rattle.judging.specs.Judging.{rows_of}
 use Rattle.columns.specs.Values.{values_in}
@@ -16,7 +15,6 @@ use Rattle.comparing.specs.Machinery.ShownValues.{LaidValue}
 use Rattle.comparing.proofs.show.FirstFound.{codes-few, has-string, explored-few, starts-needed, starts-optional, any_found, string-needed, string-behind-absence, absence-found, lays-value}
 use Rattle.comparing.proofs.survey.NoValues.{no-values}
 use Rattle.comparing.proofs.survey.StatesKept.{states-kept}
-use borrow.Author.Rules.{rules}
 use Rattle.comparing.proofs.show.show_text.Goals as goal
 
 pub lay_plans-plans-requires : goal.lay_plans-plans-requires
@@ -39,8 +37,7 @@ returns-then-found-eq0 c =
 pub show_state-requires : goal.show_state-requires
 show_state-requires c =
     let a = c.args in
-    let found = c.states_of-found.ensures in
-    (
+    let found = c.states_of-found.ensures in (
       c.requires.0,
       states-kept (rows_of a.first.now) (rows_of a.second.now) a.column c.states_of-found.new.words c.lay_plans-plans.new.words c.states_of-found.result.states c.lay_plans-plans.ensures.front
           (record {
@@ -74,8 +71,7 @@ returns-then-absent_print-print c =
 pub show_state-requires-2 : goal.show_state-requires-2
 show_state-requires-2 c =
     let a = c.args in
-    let found = c.states_of-found.ensures in
-    (
+    let found = c.states_of-found.ensures in (
       c.requires.0,
       states-kept (rows_of a.first.now) (rows_of a.second.now) a.column c.states_of-found.new.words c.lay_plans-plans.new.words c.states_of-found.result.states c.lay_plans-plans.ensures.front
           (record {

@@ -6,7 +6,6 @@ use lib.ListN.{length-set}
 use lib.Seq.{take-set-le}
 use Rattle.states.specs.Machinery.Rows.{prints_at}
 use Rattle.comparing.proofs.survey.AddingPrints.{prints-more}
-use borrow.Author.Rules.{rules}
 use Rattle.comparing.proofs.survey.add_print.Goals as goal
 
 pub returns-then-is_among : goal.returns-then-is_among

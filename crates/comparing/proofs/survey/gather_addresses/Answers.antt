@@ -1,9 +1,8 @@
-use Prim.Native.Nat.{ℕ, ◌+◌, ◌-◌, ◌^◌, ◌≤◌}
-use mathlib.Core.Path.{◌≡◌, refl, sym, ◌∙◌, subst}
+use Prim.Native.Nat.{ℕ, ◌+◌}
+use mathlib.Core.Path.{refl, sym, ◌∙◌, subst}
 use mathlib.Core.Bool.{false}
 use mathlib.Core.List.{◌++◌}
 use native.Mathlib.Omega.{arith}
-use lib.ListN.{length, take}
 use Rattle.judging.specs.Judging.{rows_of}
 use Rattle.states.specs.Machinery.Rows.{prints_at}
 use Rattle.states.proofs.Parts.{front_kept}
@@ -23,8 +22,7 @@ add_print-to-requires c =
 
 pub loop-x-init : goal.loop-x-init
 loop-x-init c =
-    let a = c.args in
-    (
+    let a = c.args in (
       omega arith,
       c.add_print-to.ensures.low,
       refl,
@@ -36,8 +34,7 @@ loop-x-init c =
 pub address_print-print-requires : goal.address_print-print-requires
 address_print-print-requires c =
     let l = c.loop-x in
-    let a = c.args in
-    (
+    let a = c.args in (
       c.requires.0,
       plans-stay a.first.now a.second.now 7 false 0 a.words.now l.words a.plans
           (front_kept l.words a.words.now (prints_at + a.from) prints_at (l.invariant.3 ∙ c.add_print-to.ensures.kept) (omega arith)) c.requires.3,
@@ -47,8 +44,7 @@ address_print-print-requires c =
 pub add_print-to-requires-in-loop-x : goal.add_print-to-requires-in-loop-x
 add_print-to-requires-in-loop-x c =
     let l = c.loop-x in
-    let a = c.args in
-    (
+    let a = c.args in (
       l.invariant.1,
       omega (
         arith,

@@ -1,18 +1,11 @@
 -- What was found up to the address at hand is in the workspace, and the rest of the way leads to the first values of column 7: that is the
 -- invariant.
-use Prim.Native.Nat.{ℕ, ◌+◌, ◌-◌, ◌^◌, ◌≤◌}
-use mathlib.Core.Path.{◌≡◌, refl, sym, ◌∙◌, subst}
-use mathlib.Core.Bool.{false}
-use mathlib.Core.List.{◌++◌}
-use native.Mathlib.Omega.{arith}
+use Prim.Native.Nat.{◌+◌, ◌-◌, ◌^◌, ◌≤◌}
+use mathlib.Core.Path.{◌≡◌}
 use lib.ListN.{length, take}
 use Rattle.judging.specs.Judging.{rows_of}
 use Rattle.states.specs.Machinery.Rows.{prints_at}
-use Rattle.states.proofs.Parts.{front_kept}
-use Rattle.columns.specs.Values.{networks_in}
-use Rattle.columns.proofs.Edges.{edge-high, next-edge-above}
-use Rattle.columns.proofs.PlansLaid.{plans-stay}
-use Rattle.comparing.proofs.survey.AddressesUpto.{AddressesUpto, upto-room, upto-begins, upto-on, upto-ends}
+use Rattle.comparing.proofs.survey.AddressesUpto.{AddressesUpto}
 use Rattle.comparing.proofs.survey.gather_addresses.Given as goal
 
 abbrev pub invariant-loop-x : goal.invariant-loop-x

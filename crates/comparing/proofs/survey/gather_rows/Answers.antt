@@ -1,9 +1,8 @@
-use Prim.Native.Nat.{ℕ, ◌+◌, ◌-◌, ◌≤◌, ◌<◌}
+use Prim.Native.Nat.{ℕ, ◌+◌, ◌-◌, ◌<◌}
 use mathlib.Core.Path.{◌≡◌, refl, sym, ap, ◌∙◌}
 use mathlib.Core.Bool.{Bool}
-use mathlib.Core.List.{List, ◌++◌, map}
+use mathlib.Core.List.{◌++◌, map}
 use native.Mathlib.Omega.{arith}
-use lib.ListN.{length, take}
 use borrow.Author.Tests.{ne_eqb}
 use Rattle.stored.specs.Choice.{pick}
 use Rattle.matching.specs.Machinery.Codes.{codes_of}
@@ -16,7 +15,7 @@ use Rattle.columns.specs.Values.{values_in}
 use Rattle.columns.proofs.PlansLaid.{prepared-stays}
 use Rattle.comparing.specs.Machinery.Product.{print_of}
 use Rattle.comparing.specs.Machinery.Adding.{adding_rows}
-use Rattle.comparing.specs.Machinery.Survey.{prints_between, print_at}
+use Rattle.comparing.specs.Machinery.Survey.{print_at}
 use Rattle.comparing.proofs.survey.AddingPrints.{row-added}
 use Rattle.comparing.proofs.survey.StatesKept.{row_stays}
 use Rattle.comparing.proofs.survey.Exploring.{string-reaches}

@@ -1,26 +1,12 @@
 -- The footprints of the rows before the one at hand were added: that is the invariant. A row's footprint is that of its string, which has the row.
-use Prim.Native.Nat.{ℕ, ◌+◌, ◌-◌, ◌≤◌, ◌<◌}
-use mathlib.Core.Path.{◌≡◌, refl, sym, ap, ◌∙◌}
-use mathlib.Core.Bool.{Bool}
-use mathlib.Core.List.{List, ◌++◌, map}
-use native.Mathlib.Omega.{arith}
+use Prim.Native.Nat.{ℕ, ◌+◌, ◌-◌, ◌≤◌}
+use mathlib.Core.Path.{◌≡◌}
+use mathlib.Core.List.{List, map}
 use lib.ListN.{length, take}
-use borrow.Author.Tests.{ne_eqb}
-use Rattle.stored.specs.Choice.{pick}
-use Rattle.matching.specs.Machinery.Codes.{codes_of}
-use Rattle.judging.specs.Requests.{absent, text}
 use Rattle.judging.specs.Judging.{rows_of}
-use Rattle.states.specs.Machinery.Rows.{prints_at, most_states, codes_at}
-use Rattle.states.specs.Machinery.Search.{string_of}
-use Rattle.states.proofs.Parts.{front_kept}
-use Rattle.columns.specs.Values.{values_in}
-use Rattle.columns.proofs.PlansLaid.{prepared-stays}
-use Rattle.comparing.specs.Machinery.Product.{print_of}
+use Rattle.states.specs.Machinery.Rows.{prints_at}
 use Rattle.comparing.specs.Machinery.Adding.{adding_rows}
 use Rattle.comparing.specs.Machinery.Survey.{prints_between, print_at}
-use Rattle.comparing.proofs.survey.AddingPrints.{row-added}
-use Rattle.comparing.proofs.survey.StatesKept.{row_stays}
-use Rattle.comparing.proofs.survey.Exploring.{string-reaches}
 use Rattle.comparing.proofs.survey.gather_rows.Given as goal
 
 abbrev pub invariant-loop-i : goal.invariant-loop-i

@@ -24,8 +24,7 @@ row_at-state-requires c =
 
 pub state_print-print-requires : goal.state_print-print-requires
 state_print-print-requires c =
-    let a = c.args in
-    (
+    let a = c.args in (
       c.requires.0,
       prepared a.first.now a.second.now a.column a.words.now a.plans c.prints_of-prints.result c.requires.5 c.prints_of-prints.ensures,
       omega (arith, c.requires.4.room),
@@ -70,8 +69,7 @@ add_print-start-requires c =
 
 pub gather_rows-requires-2 : goal.gather_rows-requires-2
 gather_rows-requires-2 c =
-    let a = c.args in
-    (
+    let a = c.args in (
       c.requires.0,
       states-stay (rows_of a.first.now) (rows_of a.second.now) a.column a.words.now a.states a.from c.requires.1 c.requires.4 c.add_print-start.new.words c.absent_print.result c.add_print-start.result c.absent_print.ensures c.add_print-start.ensures,
       omega arith,

@@ -1,4 +1,4 @@
-use Prim.Native.Nat.{ℕ, ◌-◌, ◌≤◌}
+use Prim.Native.Nat.{ℕ}
 use mathlib.Core.Path.{◌≡◌, refl, sym, ap, ◌∙◌}
 use native.Mathlib.Omega.{arith}
 use lib.Dec.{eqb}
@@ -6,7 +6,6 @@ use borrow.Author.Tests.{eq-eqb, ne_eqb}
 use Rattle.stored.specs.Choice.{some}
 use Rattle.comparing.specs.Machinery.Survey.{prints_between}
 use Rattle.comparing.proofs.survey.AddingPrints.{prints-none, prints-next}
-use borrow.Author.Rules.{rules}
 use Rattle.comparing.proofs.survey.is_among.Goals as goal
 
 pub loop-i-init : goal.loop-i-init

@@ -1,13 +1,9 @@
 -- No footprint before the index is the one looked for, so that it is among all of them just when it is among the rest: that is the invariant.
-use Prim.Native.Nat.{ℕ, ◌-◌, ◌≤◌}
-use mathlib.Core.Path.{◌≡◌, refl, sym, ap, ◌∙◌}
-use native.Mathlib.Omega.{arith}
+use Prim.Native.Nat.{◌-◌, ◌≤◌}
+use mathlib.Core.Path.{◌≡◌}
 use lib.Dec.{eqb}
-use borrow.Author.Tests.{eq-eqb, ne_eqb}
 use Rattle.stored.specs.Choice.{some}
 use Rattle.comparing.specs.Machinery.Survey.{prints_between}
-use Rattle.comparing.proofs.survey.AddingPrints.{prints-none, prints-next}
-use borrow.Author.Rules.{rules}
 use Rattle.comparing.proofs.survey.is_among.Given as goal
 
 abbrev pub invariant-loop-i : goal.invariant-loop-i

@@ -11,13 +11,11 @@ use Rattle.states.specs.Machinery.Search.{Explored, Exceeded}
 use Rattle.states.proofs.TakenRows.{codes-stay, searchable-laid}
 use Rattle.columns.proofs.Widths.{sum_both}
 use Rattle.comparing.proofs.survey.LaidCodes.{with_codes, with-length, part_length, codes-both-laid, prints-stay}
-use borrow.Author.Rules.{rules}
 use Rattle.comparing.proofs.survey.states_of.Goals as goal
 
 pub lay_codes-own-requires : goal.lay_codes-own-requires
 lay_codes-own-requires c =
-    let a = c.args in
-    (
+    let a = c.args in (
       c.requires.0,
       omega (arith, c.requires.2, sum_both a.column (rows_of a.first.now) (rows_of a.second.now), part_length a.words.now c.requires.3),
     )

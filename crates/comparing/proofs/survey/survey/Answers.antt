@@ -1,13 +1,12 @@
-use Prim.Native.Nat.{ℕ, ◌-◌, ◌≤◌}
+use Prim.Native.Nat.{ℕ}
 use mathlib.Core.Path.{◌≡◌, refl, sym, ◌∙◌, subst}
 use native.Mathlib.Numerals.{add-one}
 use native.Mathlib.Omega.{arith}
-use lib.ListN.{length, set}
+use lib.ListN.{set}
 use Rattle.judging.specs.Judging.{rows_of}
 use Rattle.comparing.specs.Machinery.Survey.{SurveyedColumn}
 use Rattle.comparing.specs.declared.survey.Column.{Column}
 use Rattle.comparing.proofs.survey.ColumnsSurveyed.{ColumnsUpto, columns-begin, columns-on, columns-end}
-use borrow.Author.Rules.{rules}
 use Rattle.comparing.proofs.survey.survey.Goals as goal
 
 pub loop-column-init : goal.loop-column-init
@@ -60,8 +59,7 @@ pub loop-column-preserved : goal.loop-column-preserved
 loop-column-preserved c =
     let l = c.loop-column in
     let a = c.args in
-    let found = subst (λ (r : Column). SurveyedColumn (rows_of a.first.now) (rows_of a.second.now) l.column l.words c.survey_column.new.words l.from r) c.in-Within.is c.survey_column.ensures in
-    (
+    let found = subst (λ (r : Column). SurveyedColumn (rows_of a.first.now) (rows_of a.second.now) l.column l.words c.survey_column.new.words l.from r) c.in-Within.is c.survey_column.ensures in (
       omega arith,
       c.survey_column.auto.words ∙ l.invariant.1,
       subst

@@ -1,14 +1,9 @@
 -- The columns below the one at hand were surveyed: that is the invariant.
-use Prim.Native.Nat.{ℕ, ◌-◌, ◌≤◌}
-use mathlib.Core.Path.{◌≡◌, refl, sym, ◌∙◌, subst}
-use native.Mathlib.Numerals.{add-one}
-use native.Mathlib.Omega.{arith}
-use lib.ListN.{length, set}
+use Prim.Native.Nat.{◌-◌, ◌≤◌}
+use mathlib.Core.Path.{◌≡◌}
+use lib.ListN.{length}
 use Rattle.judging.specs.Judging.{rows_of}
-use Rattle.comparing.specs.Machinery.Survey.{SurveyedColumn}
-use Rattle.comparing.specs.declared.survey.Column.{Column}
-use Rattle.comparing.proofs.survey.ColumnsSurveyed.{ColumnsUpto, columns-begin, columns-on, columns-end}
-use borrow.Author.Rules.{rules}
+use Rattle.comparing.proofs.survey.ColumnsSurveyed.{ColumnsUpto}
 use Rattle.comparing.proofs.survey.survey.Given as goal
 
 abbrev pub invariant-loop-column : goal.invariant-loop-column

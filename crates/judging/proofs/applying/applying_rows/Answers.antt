@@ -1,13 +1,13 @@
 use borrow.Author.Rules.{rules}
-use mathlib.Core.Path.{◌≡◌, sym, ◌∙◌, ap}
+use mathlib.Core.Path.{sym, ◌∙◌, ap}
 use mathlib.Core.Bool.{false}
-use Prim.Native.Nat.{ℕ, ◌+◌, ◌-◌, ◌≤◌}
+use Prim.Native.Nat.{ℕ, ◌+◌}
 use native.Mathlib.Omega.{arith}
-use lib.ListN.{length, take, drop}
+use lib.ListN.{take, drop}
 use Rattle.stored.specs.Entries.{entry_of, entries_from, entries_of}
 use Rattle.stored.proofs.Walking.{inside}
 use Rattle.judging.specs.Requests.{column_of, request_of}
-use Rattle.judging.specs.Machinery.Walk.{item_column, step_in, run_in, fresh_walk, done_of, every_column}
+use Rattle.judging.specs.Machinery.Walk.{item_column, step_in, run_in, done_of, every_column}
 use Rattle.judging.specs.declared.walk.Walk.{Walk}
 use Rattle.judging.proofs.Records.{record-has-kind, entry-item}
 use Rattle.judging.proofs.Walking.{run-in-on, run-in-cut, run-in-strange, run-in-past, walk-applies}

@@ -1,18 +1,12 @@
 -- The loop's invariant: the walk over the records from here on, from the state at hand, is the walk over all of them from the
 -- beginning. At the end no record is left, so that the state at hand is the whole walk's, which means the rows that apply.
-use borrow.Author.Rules.{rules}
-use mathlib.Core.Path.{◌≡◌, sym, ◌∙◌, ap}
+use mathlib.Core.Path.{◌≡◌}
 use mathlib.Core.Bool.{false}
-use Prim.Native.Nat.{ℕ, ◌+◌, ◌-◌, ◌≤◌}
-use native.Mathlib.Omega.{arith}
-use lib.ListN.{length, take, drop}
-use Rattle.stored.specs.Entries.{entry_of, entries_from, entries_of}
-use Rattle.stored.proofs.Walking.{inside}
+use Prim.Native.Nat.{◌-◌, ◌≤◌}
+use lib.ListN.{length}
+use Rattle.stored.specs.Entries.{entries_from, entries_of}
 use Rattle.judging.specs.Requests.{column_of, request_of}
-use Rattle.judging.specs.Machinery.Walk.{item_column, step_in, run_in, fresh_walk, done_of, every_column}
-use Rattle.judging.specs.declared.walk.Walk.{Walk}
-use Rattle.judging.proofs.Records.{record-has-kind, entry-item}
-use Rattle.judging.proofs.Walking.{run-in-on, run-in-cut, run-in-strange, run-in-past, walk-applies}
+use Rattle.judging.specs.Machinery.Walk.{run_in, fresh_walk, every_column}
 use Rattle.judging.proofs.applying.applying_rows.Given as goal
 
 abbrev pub invariant-loop-at : goal.invariant-loop-at

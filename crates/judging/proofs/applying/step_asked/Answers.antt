@@ -1,5 +1,4 @@
 -- An arm for each record, each the clause of the definition; a value is matched only where the answer can still matter.
-use borrow.Author.Rules.{rules}
 use mathlib.Core.Path.{◌≡◌, sym, ap, ◌∙◌}
 use mathlib.Core.Bool.{Bool, true}
 use Rattle.stored.specs.Choice.{pick}

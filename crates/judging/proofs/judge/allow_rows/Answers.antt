@@ -1,5 +1,4 @@
 -- In a column that no list speaks of every row holds, so that the allow statements are left.
-use borrow.Author.Rules.{rules}
 use mathlib.Core.Path.{◌∙◌}
 use mathlib.Core.Bool.{false}
 use Rattle.judging.specs.Requests.{columns}

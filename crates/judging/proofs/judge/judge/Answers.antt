@@ -1,5 +1,4 @@
 -- What the reader answers decides first; a table that reads has at most 32 rows, so that a word holds them.
-use borrow.Author.Rules.{rules}
 use mathlib.Core.Path.{sym, ◌∙◌}
 use native.Mathlib.Omega.{arith}
 use Rattle.stored.proofs.Accepting.{few}

@@ -1,5 +1,4 @@
 -- 9 at the lowest faulty column; else the sets of rows decide as the statements do.
-use borrow.Author.Rules.{rules}
 use mathlib.Core.Path.{◌∙◌}
 use Rattle.judging.specs.Requests.{request_of}
 use Rattle.judging.specs.Judging.{rows_of}

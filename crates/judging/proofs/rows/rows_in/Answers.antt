@@ -1,11 +1,9 @@
 use borrow.Author.Rules.{rules}
-use mathlib.Core.Path.{◌≡◌, sym, ◌∙◌, ap}
-use Prim.Native.Nat.{◌≤◌, ◌-◌}
+use mathlib.Core.Path.{sym, ◌∙◌, ap}
 use native.Mathlib.Omega.{arith}
-use lib.ListN.{length}
-use Rattle.stored.specs.Entries.{entries_from, entries_of}
+use Rattle.stored.specs.Entries.{entries_of}
 use Rattle.stored.proofs.Walking.{inside}
-use Rattle.judging.specs.Machinery.Walk.{run_of, fresh_walk, done_of, value_in}
+use Rattle.judging.specs.Machinery.Walk.{done_of, value_in}
 use Rattle.judging.proofs.Records.{record-has-kind}
 use Rattle.judging.proofs.Walking.{run_on, run-cut, run-strange, run_past, walk-means}
 use Rattle.judging.proofs.rows.rows_in.Goals as goal

@@ -1,15 +1,10 @@
 -- The loop's invariant: the walk over the records from here on, from the state at hand, is the walk over all of them from the
 -- beginning. At the end no record is left, so that the state at hand is the whole walk's, which means the rows that hold.
-use borrow.Author.Rules.{rules}
-use mathlib.Core.Path.{◌≡◌, sym, ◌∙◌, ap}
+use mathlib.Core.Path.{◌≡◌}
 use Prim.Native.Nat.{◌≤◌, ◌-◌}
-use native.Mathlib.Omega.{arith}
 use lib.ListN.{length}
 use Rattle.stored.specs.Entries.{entries_from, entries_of}
-use Rattle.stored.proofs.Walking.{inside}
-use Rattle.judging.specs.Machinery.Walk.{run_of, fresh_walk, done_of, value_in}
-use Rattle.judging.proofs.Records.{record-has-kind}
-use Rattle.judging.proofs.Walking.{run_on, run-cut, run-strange, run_past, walk-means}
+use Rattle.judging.specs.Machinery.Walk.{run_of, fresh_walk, value_in}
 use Rattle.judging.proofs.rows.rows_in.Given as goal
 
 abbrev pub invariant-loop-at : goal.invariant-loop-at

@@ -1,5 +1,4 @@
 -- An arm for each record, each the clause of the definition; a value is matched only where the answer can still matter.
-use borrow.Author.Rules.{rules}
 use mathlib.Core.Path.{sym, ◌∙◌}
 use Rattle.judging.specs.Machinery.Walk.{step_of}
 use Rattle.judging.proofs.Presence.{present-in}

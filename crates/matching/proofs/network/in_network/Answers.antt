@@ -1,5 +1,5 @@
 -- The two tests are the two ends of the range.
-use Rattle.std.proofs.Common.{◌≡◌, ℕ, ◌<◌, ◌≤◌, Bool, true, false, ◌&&◌, leb, sym, ap, ◌∙◌, subst, rules, le-leb}
+use Rattle.std.proofs.Common.{◌≡◌, ℕ, ◌<◌, ◌≤◌, Bool, true, false, ◌&&◌, leb, sym, ap, ◌∙◌, subst, le-leb}
 use borrow.Author.Tests.{lt-leb}
 use Rattle.matching.specs.Machinery.Ranges.{network_low, network_high}
 use Rattle.matching.proofs.Networks.{in-range}

@@ -1,5 +1,5 @@
 -- The last address of a range that lies below 2 ^ 32.
-use Rattle.std.proofs.Common.{◌-◌, ◌^◌, ◌<◌, arith, pow_pos, rules}
+use Rattle.std.proofs.Common.{◌-◌, ◌^◌, ◌<◌, arith, pow_pos}
 use Rattle.matching.specs.Machinery.Ranges.{network_high}
 use Rattle.matching.proofs.Networks.{high_fits}
 use Rattle.matching.proofs.network.network_high.Goals as goal

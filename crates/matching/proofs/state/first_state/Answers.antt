@@ -1,5 +1,5 @@
 -- The empty string is reached from no position.
-use Rattle.std.proofs.Common.{◌∙◌, rules}
+use Rattle.std.proofs.Common.{◌∙◌}
 use Rattle.matching.proofs.Sweeps.{first-cells}
 use Rattle.matching.proofs.state.first_state.Goals as goal
 

@@ -1,5 +1,5 @@
 -- Below 512 this is the definition; above, the row has no word, and an absent word has no bit.
-use Rattle.std.proofs.Common.{ℕ, ◌/◌, ◌%◌, ◌^◌, ◌≤◌, eqb, length, sym, refl, ap, ◌∙◌, arith, rules}
+use Rattle.std.proofs.Common.{ℕ, ◌/◌, ◌%◌, ◌^◌, ◌≤◌, eqb, length, sym, refl, ap, ◌∙◌, arith}
 use native.Mathlib.Nat.{zero-div}
 use lib.ListN.{get_or-eq_default}
 use Rattle.matching.specs.Machinery.Rows.{row_bit, word_bit}

@@ -1,5 +1,5 @@
 -- The store is the definition: the bit that is set fits a word.
-use Rattle.std.proofs.Common.{◌≡◌, ℕ, ◌*◌, ◌/◌, ◌%◌, ◌^◌, get_or, set, sym, ap, ◌∙◌, mod-eq_of_lt, one-mul, arith, rules}
+use Rattle.std.proofs.Common.{◌≡◌, ℕ, ◌*◌, ◌/◌, ◌%◌, ◌^◌, get_or, set, sym, ap, ◌∙◌, mod-eq_of_lt, one-mul, arith}
 use lib.Bits.{bit_or}
 use lib.Pow.{pow-lt}
 use Rattle.matching.specs.Machinery.Rows.{mark_row}

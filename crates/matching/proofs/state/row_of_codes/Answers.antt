@@ -1,5 +1,5 @@
-use Rattle.std.proofs.Common.{◌≡◌, ℕ, ◌+◌, ◌-◌, ◌<◌, ◌≤◌, List, length, get_or, take, drop, sym, ap, ◌∙◌, arith, rules, ltb-false, ltb-true}
-use Rattle.matching.specs.Machinery.Rows.{row_bit, cell_row}
+use Rattle.std.proofs.Common.{ℕ, ◌+◌, ◌-◌, ◌<◌, List, length, get_or, take, drop, sym, ap, ◌∙◌, arith}
+use Rattle.matching.specs.Machinery.Rows.{row_bit}
 use Rattle.matching.proofs.Parts.{part-more, part-done, part-past}
 use Rattle.matching.proofs.Sweeps.{sweep, sweep-row, sweep-next}
 use Rattle.matching.proofs.state.row_of_codes.Goals as goal

@@ -1,8 +1,7 @@
 -- The loop is a sweep: what is left of it, from the row so far, makes the row that is meant.
-use Rattle.std.proofs.Common.{◌≡◌, ℕ, ◌+◌, ◌-◌, ◌<◌, ◌≤◌, List, length, get_or, take, drop, sym, ap, ◌∙◌, arith, rules, ltb-false, ltb-true}
+use Rattle.std.proofs.Common.{◌≡◌, ◌-◌, ◌≤◌, take, drop}
 use Rattle.matching.specs.Machinery.Rows.{row_bit, cell_row}
-use Rattle.matching.proofs.Parts.{part-more, part-done, part-past}
-use Rattle.matching.proofs.Sweeps.{sweep, sweep-row, sweep-next}
+use Rattle.matching.proofs.Sweeps.{sweep}
 use Rattle.matching.proofs.state.row_of_codes.Given as goal
 
 abbrev pub invariant-loop-p : goal.invariant-loop-p

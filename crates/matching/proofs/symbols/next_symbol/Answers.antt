@@ -1,5 +1,5 @@
 -- The tests are those of the definition.
-use Rattle.std.proofs.Common.{rules, le-ltb, lt-ltb}
+use Rattle.std.proofs.Common.{le-ltb, lt-ltb}
 use Rattle.matching.specs.Machinery.Cursor.{next_of}
 use Rattle.matching.proofs.symbols.next_symbol.Goals as goal
 

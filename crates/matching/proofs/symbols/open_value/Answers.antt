@@ -1,6 +1,5 @@
 -- Each field is what its function ensures.
 use Rattle.matching.specs.Machinery.Cursor.{open_of}
-use Rattle.std.proofs.Common.{rules}
 use Rattle.matching.proofs.symbols.open_value.Goals as goal
 
 pub returns : goal.returns

@@ -1,7 +1,6 @@
 -- The symbols counted and those left are all symbols, and each symbol that is found is the first of those left.
-use Rattle.std.proofs.Common.{◌≡◌, ◌+◌, length, sym, ap, ◌∙◌, arith, rules}
+use Rattle.std.proofs.Common.{◌≡◌, ◌+◌, length}
 use Rattle.matching.specs.Machinery.Cursor.{codes_left}
-use Rattle.matching.proofs.Cursors.{next_more, next-done, left-fits}
 use Rattle.matching.proofs.value.count_symbols.Given as goal
 
 abbrev pub invariant-loop-behind : goal.invariant-loop-behind

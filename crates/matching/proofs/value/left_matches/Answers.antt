@@ -1,6 +1,6 @@
-use Rattle.std.proofs.Common.{◌≡◌, ℕ, suc, ◌+◌, ◌-◌, ◌<◌, ◌≤◌, Bool, true, false, ◌&&◌, leb, List, length, get_or, drop, sym, refl, ap, ◌∙◌, add-one, arith, length-drop, drop_of_length-le, take_all, drop-cons, rules, leb-false, leb-true}
+use Rattle.std.proofs.Common.{◌≡◌, ℕ, suc, ◌+◌, ◌-◌, ◌<◌, Bool, true, false, ◌&&◌, leb, List, length, get_or, drop, sym, refl, ap, ◌∙◌, add-one, arith, length-drop, drop_of_length-le, take_all, drop-cons, leb-false, leb-true}
 use Rattle.matching.specs.Machinery.Codes.{takes_symbol}
-use Rattle.matching.specs.Machinery.Cursor.{next_of, codes_left, left_matches}
+use Rattle.matching.specs.Machinery.Cursor.{next_of, left_matches}
 use Rattle.matching.specs.Matches.{is_empty}
 use Rattle.matching.specs.declared.symbols.Next.TheVariants as N
 use Rattle.matching.proofs.Cursors.{next_more}
@@ -15,9 +15,11 @@ ended s i = by (leb (length s) i) refl
     by false e = ap is_empty (sym (drop-cons s i 0 (leb-false (length s) i e)))
 
 pub star_matches-requires : goal.star_matches-requires
-star_matches-requires c =
-    (c.loop-code.invariant.1, (let known_next : next_of c.args.table.now c.loop-code.cursor
-    ≡ N.Symbol c.in-Symbol.code c.in-Symbol.behind = sym c.next_symbol.ensures ∙ c.in-Symbol.is in known_next) ∙ ap (λ (n : ℕ). N.Symbol n c.in-Symbol.behind) c.if-code-eq-BEHIND_STAR.true)
+star_matches-requires c = (
+  c.loop-code.invariant.1,
+  (let known_next : next_of c.args.table.now c.loop-code.cursor
+      ≡ N.Symbol c.in-Symbol.code c.in-Symbol.behind = sym c.next_symbol.ensures ∙ c.in-Symbol.is in known_next) ∙ ap (λ (n : ℕ). N.Symbol n c.in-Symbol.behind) c.if-code-eq-BEHIND_STAR.true,
+)
 
 pub returns-then-code-eq-BEHIND_STAR : goal.returns-then-code-eq-BEHIND_STAR
 returns-then-code-eq-BEHIND_STAR c =
@@ -41,25 +43,28 @@ pub loop-code-preserved : goal.loop-code-preserved
 loop-code-preserved c =
     let l = c.loop-code in
     let a = c.args in
-    let t = a.table.now in
-    (
+    let t = a.table.now in (
       omega (arith, c.if-string-i.false),
-      omega (arith, ap length (next_more t l.cursor c.in-Symbol.code c.in-Symbol.behind ((let known_next : next_of c.args.table.now c.loop-code.cursor
-    ≡ N.Symbol c.in-Symbol.code c.in-Symbol.behind = sym c.next_symbol.ensures ∙ c.in-Symbol.is in known_next))), l.invariant.1),
+      omega (
+        arith,
+        ap length (next_more t l.cursor c.in-Symbol.code c.in-Symbol.behind ((let known_next : next_of c.args.table.now c.loop-code.cursor
+            ≡ N.Symbol c.in-Symbol.code c.in-Symbol.behind = sym c.next_symbol.ensures ∙ c.in-Symbol.is in known_next))),
+        l.invariant.1,
+      ),
       ap (λ (taken : Bool). taken && left_matches t c.in-Symbol.behind (drop (l.i + 1) a.string.now)) (sym c.if-takes_symbol.true ∙ c.takes_symbol.ensures)
           ∙ (let known_asked : (takes_symbol c.in-Symbol.code (get_or c.args.string.now c.loop-code.i 0)
-    && left_matches c.args.table.now c.in-Symbol.behind
-    (drop (c.loop-code.i + 1) c.args.string.now))
-    ≡ left_matches c.args.table.now c.args.first c.args.string.now = let l = c.loop-code in
-    let a = c.args in
-    let t = a.table.now in
-    let s = a.string.now in
-    let inside : l.i < length s = omega (arith, c.if-string-i.false) in
-    ap (λ (n : ℕ). takes_symbol c.in-Symbol.code (get_or s l.i 0) && left_matches t c.in-Symbol.behind (drop n s)) (add-one l.i)
-    ∙ sym (left-takes t l.cursor c.in-Symbol.code c.in-Symbol.behind ((let known_next : next_of c.args.table.now c.loop-code.cursor
-    ≡ N.Symbol c.in-Symbol.code c.in-Symbol.behind = sym c.next_symbol.ensures ∙ c.in-Symbol.is in known_next)) c.if-code-eq-BEHIND_STAR.false (get_or s l.i 0) (drop (suc l.i) s))
-    ∙ ap (left_matches t l.cursor) (sym (drop-cons s l.i 0 inside))
-    ∙ l.invariant.2 in known_asked),
+          && left_matches c.args.table.now c.in-Symbol.behind
+          (drop (c.loop-code.i + 1) c.args.string.now))
+          ≡ left_matches c.args.table.now c.args.first c.args.string.now = let l = c.loop-code in
+          let a = c.args in
+          let t = a.table.now in
+          let s = a.string.now in
+          let inside : l.i < length s = omega (arith, c.if-string-i.false) in
+          ap (λ (n : ℕ). takes_symbol c.in-Symbol.code (get_or s l.i 0) && left_matches t c.in-Symbol.behind (drop n s)) (add-one l.i)
+          ∙ sym (left-takes t l.cursor c.in-Symbol.code c.in-Symbol.behind ((let known_next : next_of c.args.table.now c.loop-code.cursor
+          ≡ N.Symbol c.in-Symbol.code c.in-Symbol.behind = sym c.next_symbol.ensures ∙ c.in-Symbol.is in known_next)) c.if-code-eq-BEHIND_STAR.false (get_or s l.i 0) (drop (suc l.i) s))
+          ∙ ap (left_matches t l.cursor) (sym (drop-cons s l.i 0 inside))
+          ∙ l.invariant.2 in known_asked),
     )
 
 pub returns-else-takes_symbol : goal.returns-else-takes_symbol

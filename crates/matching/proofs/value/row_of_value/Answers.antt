@@ -1,6 +1,6 @@
-use Rattle.std.proofs.Common.{◌≡◌, ℕ, ◌+◌, ◌≤◌, false, List, ◌∷◌, length, replicate, sym, refl, ap, ◌∙◌, arith, rules}
+use Rattle.std.proofs.Common.{◌≡◌, ℕ, false, List, ◌∷◌, length, replicate, sym, refl, ap, ◌∙◌, arith}
 use Rattle.matching.specs.Machinery.Cursor.{codes_left}
-use Rattle.matching.specs.Machinery.Rows.{row_bit, cell_row}
+use Rattle.matching.specs.Machinery.Rows.{row_bit}
 use Rattle.matching.proofs.Cursors.{next_more, next-done}
 use Rattle.matching.proofs.Sweeps.{sweep, sweep-few, sweep-next}
 use Rattle.matching.proofs.value.row_of_value.Goals as goal
@@ -16,24 +16,39 @@ loop-code-init c =
     )
 
 pub bounds-row-i : goal.bounds-row-i
-bounds-row-i c = omega (arith, ap length ((let known_found : codes_left c.args.table.now c.loop-code.cursor ≡ c.in-Symbol.code ∷ codes_left c.args.table.now c.in-Symbol.behind = let t = c.args.table.now in
-    let l = c.loop-code in
-    next_more t l.cursor _ _ (sym c.next_symbol.ensures ∙ c.in-Symbol.is) in known_found)), c.loop-code.invariant.0)
+bounds-row-i c = omega (
+  arith,
+  ap length ((let known_found : codes_left c.args.table.now c.loop-code.cursor ≡ c.in-Symbol.code ∷ codes_left c.args.table.now c.in-Symbol.behind = let t = c.args.table.now in
+      let l = c.loop-code in
+      next_more t l.cursor _ _ (sym c.next_symbol.ensures ∙ c.in-Symbol.is) in known_found)),
+  c.loop-code.invariant.0,
+)
 
 pub mark_in-requires : goal.mark_in-requires
-mark_in-requires c = omega (arith, ap length ((let known_found : codes_left c.args.table.now c.loop-code.cursor ≡ c.in-Symbol.code ∷ codes_left c.args.table.now c.in-Symbol.behind = let t = c.args.table.now in
-    let l = c.loop-code in
-    next_more t l.cursor _ _ (sym c.next_symbol.ensures ∙ c.in-Symbol.is) in known_found)), c.loop-code.invariant.0)
+mark_in-requires c = omega (
+  arith,
+  ap length ((let known_found : codes_left c.args.table.now c.loop-code.cursor ≡ c.in-Symbol.code ∷ codes_left c.args.table.now c.in-Symbol.behind = let t = c.args.table.now in
+      let l = c.loop-code in
+      next_more t l.cursor _ _ (sym c.next_symbol.ensures ∙ c.in-Symbol.is) in known_found)),
+  c.loop-code.invariant.0,
+)
 
 pub overflow_add-p : goal.overflow_add-p
-overflow_add-p c = omega (arith, ap length ((let known_found : codes_left c.args.table.now c.loop-code.cursor ≡ c.in-Symbol.code ∷ codes_left c.args.table.now c.in-Symbol.behind = let t = c.args.table.now in
-    let l = c.loop-code in
-    next_more t l.cursor _ _ (sym c.next_symbol.ensures ∙ c.in-Symbol.is) in known_found)), c.loop-code.invariant.0)
+overflow_add-p c = omega (
+  arith,
+  ap length ((let known_found : codes_left c.args.table.now c.loop-code.cursor ≡ c.in-Symbol.code ∷ codes_left c.args.table.now c.in-Symbol.behind = let t = c.args.table.now in
+      let l = c.loop-code in
+      next_more t l.cursor _ _ (sym c.next_symbol.ensures ∙ c.in-Symbol.is) in known_found)),
+  c.loop-code.invariant.0,
+)
 
 pub loop-code-smaller : goal.loop-code-smaller
-loop-code-smaller c = omega (arith, ap length ((let known_found : codes_left c.args.table.now c.loop-code.cursor ≡ c.in-Symbol.code ∷ codes_left c.args.table.now c.in-Symbol.behind = let t = c.args.table.now in
-    let l = c.loop-code in
-    next_more t l.cursor _ _ (sym c.next_symbol.ensures ∙ c.in-Symbol.is) in known_found)))
+loop-code-smaller c = omega (
+  arith,
+  ap length ((let known_found : codes_left c.args.table.now c.loop-code.cursor ≡ c.in-Symbol.code ∷ codes_left c.args.table.now c.in-Symbol.behind = let t = c.args.table.now in
+      let l = c.loop-code in
+      next_more t l.cursor _ _ (sym c.next_symbol.ensures ∙ c.in-Symbol.is) in known_found)),
+)
 
 pub loop-code-preserved : goal.loop-code-preserved
 unfolding row_bit

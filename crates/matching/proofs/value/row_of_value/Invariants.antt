@@ -1,9 +1,8 @@
 -- The loop is a sweep over the codes that the cursor finds, begun with the code of the start.
-use Rattle.std.proofs.Common.{◌≡◌, ℕ, ◌+◌, ◌≤◌, false, List, ◌∷◌, length, replicate, sym, refl, ap, ◌∙◌, arith, rules}
+use Rattle.std.proofs.Common.{◌≡◌, ◌+◌, ◌≤◌, ◌∷◌, length}
 use Rattle.matching.specs.Machinery.Cursor.{codes_left}
 use Rattle.matching.specs.Machinery.Rows.{row_bit, cell_row}
-use Rattle.matching.proofs.Cursors.{next_more, next-done}
-use Rattle.matching.proofs.Sweeps.{sweep, sweep-few, sweep-next}
+use Rattle.matching.proofs.Sweeps.{sweep}
 use Rattle.matching.proofs.value.row_of_value.Given as goal
 
 abbrev pub invariant-loop-code : goal.invariant-loop-code

@@ -1,9 +1,7 @@
 -- The row is that of the bytes passed, stepped over the codes that are left alone; its last position says whether the symbols match.
-use Rattle.std.proofs.Common.{◌≡◌, ℕ, ◌+◌, ◌-◌, ◌<◌, ◌≤◌, List, ◌∷◌, length, get_or, drop, sym, ap, ◌∙◌, ap₂, add-one, arith, drop_of_length-le, drop-cons, rules}
+use Rattle.std.proofs.Common.{◌≡◌, ◌-◌, ◌≤◌, ◌∷◌, length, drop}
 use Rattle.matching.specs.Machinery.Cursor.{codes_left}
-use Rattle.matching.specs.Machinery.Rows.{row_bit, row_after, row_of, step_row}
-use Rattle.matching.proofs.Sweeps.{first-cells, step-cells}
-use Rattle.matching.proofs.SymbolsLeft.{rows-decide}
+use Rattle.matching.specs.Machinery.Rows.{row_after, row_of}
 use Rattle.matching.proofs.value.rows_match.Given as goal
 
 abbrev pub invariant-loop-i : goal.invariant-loop-i

@@ -1,5 +1,5 @@
 -- Where no symbol follows the star, it takes any string; else the row decides.
-use Rattle.std.proofs.Common.{sym, ◌∙◌, rules}
+use Rattle.std.proofs.Common.{sym, ◌∙◌}
 use Rattle.matching.proofs.SymbolsLeft.{last-star}
 use Rattle.matching.proofs.value.star_matches.Goals as goal
 

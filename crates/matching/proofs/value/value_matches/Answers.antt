@@ -1,5 +1,5 @@
 -- An opened cursor has all symbols of the value before it, no more than the bytes asked for.
-use Rattle.std.proofs.Common.{ℕ, ◌<◌, sym, ap, ◌∙◌, subst, arith, rules}
+use Rattle.std.proofs.Common.{ℕ, ◌<◌, sym, ap, ◌∙◌, subst, arith}
 use lib.ListN
 use Rattle.matching.specs.declared.symbols.Cursor.{Cursor}
 use Rattle.matching.specs.Machinery.Cursor.{codes_left, left_matches}

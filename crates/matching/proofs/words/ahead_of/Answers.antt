@@ -1,6 +1,6 @@
-use Rattle.std.proofs.Common.{◌≡◌, ℕ, ◌+◌, ◌-◌, ◌*◌, ◌≤◌, Bool, false, List, set, refl, ap, ◌∙◌, arith, rules}
-use Rattle.matching.specs.Machinery.Rows.{word_bit, row_bit, pack_word, pack}
-use Rattle.matching.specs.Machinery.Words.{moved_up, ahead_row}
+use Rattle.std.proofs.Common.{◌≡◌, ℕ, ◌+◌, ◌*◌, List, set, refl, ap, ◌∙◌, arith}
+use Rattle.matching.specs.Machinery.Rows.{pack_word, pack}
+use Rattle.matching.specs.Machinery.Words.{ahead_row}
 use Rattle.matching.proofs.Rows.{upto}
 use Rattle.matching.proofs.MarkedRows.{none-marked, all-marked, lay-more, row-carry}
 use Rattle.matching.proofs.AlikeBytes.{word-ahead}

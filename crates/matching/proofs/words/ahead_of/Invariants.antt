@@ -1,10 +1,8 @@
 -- The row so far has the positions behind those of the words before i, and the word before brings the bit in front of it.
-use Rattle.std.proofs.Common.{◌≡◌, ℕ, ◌+◌, ◌-◌, ◌*◌, ◌≤◌, Bool, false, List, set, refl, ap, ◌∙◌, arith, rules}
-use Rattle.matching.specs.Machinery.Rows.{word_bit, row_bit, pack_word, pack}
-use Rattle.matching.specs.Machinery.Words.{moved_up, ahead_row}
+use Rattle.std.proofs.Common.{◌≡◌, ℕ, ◌-◌, ◌*◌, ◌≤◌, Bool, false, List}
+use Rattle.matching.specs.Machinery.Rows.{word_bit, row_bit, pack}
+use Rattle.matching.specs.Machinery.Words.{moved_up}
 use Rattle.matching.proofs.Rows.{upto}
-use Rattle.matching.proofs.MarkedRows.{none-marked, all-marked, lay-more, row-carry}
-use Rattle.matching.proofs.AlikeBytes.{word-ahead}
 use Rattle.matching.proofs.words.ahead_of.Given as goal
 
 abbrev pub behind : List ℕ → ℕ → Bool

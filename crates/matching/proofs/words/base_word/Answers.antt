@@ -1,5 +1,5 @@
 -- The operations are those of the rule, bit by bit.
-use Rattle.std.proofs.Common.{arith, rules}
+use Rattle.std.proofs.Common.{arith}
 use Rattle.matching.proofs.WordBits.{word-base}
 use Rattle.matching.proofs.words.base_word.Goals as goal
 

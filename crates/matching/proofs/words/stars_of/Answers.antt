@@ -1,7 +1,5 @@
-use Rattle.std.proofs.Common.{◌≡◌, ◌-◌, ◌≤◌, length, refl, ◌∙◌, arith, rules, ltb-false}
-use Rattle.matching.specs.Machinery.Rows.{pack}
+use Rattle.std.proofs.Common.{◌≤◌, length, refl, ◌∙◌, arith}
 use Rattle.matching.specs.Machinery.Words.{star_bit, star_row}
-use Rattle.matching.proofs.Rows.{upto}
 use Rattle.matching.proofs.MarkedRows.{none-marked, mark-more, all-marked, star-outside}
 use Rattle.matching.proofs.words.stars_of.Goals as goal
 

@@ -1,6 +1,6 @@
-use Rattle.std.proofs.Common.{◌≡◌, ℕ, ◌+◌, ◌-◌, ◌*◌, ◌≤◌, Bool, false, List, set, refl, ap, ◌∙◌, arith, rules}
-use Rattle.matching.specs.Machinery.Rows.{word_bit, row_bit, pack_word, pack}
-use Rattle.matching.specs.Machinery.Words.{set_step, moved_up, words_row}
+use Rattle.std.proofs.Common.{◌≡◌, ℕ, ◌+◌, ◌*◌, List, set, refl, ap, ◌∙◌, arith}
+use Rattle.matching.specs.Machinery.Rows.{pack_word, pack}
+use Rattle.matching.specs.Machinery.Words.{words_row}
 use Rattle.matching.proofs.Rows.{upto}
 use Rattle.matching.proofs.MarkedRows.{none-marked, lay-more, word-laid, row-carry, new-carry}
 use Rattle.matching.proofs.words.step_words.Invariants.{step_of}

@@ -1,9 +1,8 @@
 -- The row so far is the step below word i, and the words before it bring the bits in front of it.
-use Rattle.std.proofs.Common.{◌≡◌, ℕ, ◌+◌, ◌-◌, ◌*◌, ◌≤◌, Bool, false, List, set, refl, ap, ◌∙◌, arith, rules}
-use Rattle.matching.specs.Machinery.Rows.{word_bit, row_bit, pack_word, pack}
-use Rattle.matching.specs.Machinery.Words.{set_step, moved_up, words_row}
+use Rattle.std.proofs.Common.{◌≡◌, ℕ, ◌-◌, ◌*◌, ◌≤◌, Bool, false, List}
+use Rattle.matching.specs.Machinery.Rows.{word_bit, row_bit, pack}
+use Rattle.matching.specs.Machinery.Words.{set_step, moved_up}
 use Rattle.matching.proofs.Rows.{upto}
-use Rattle.matching.proofs.MarkedRows.{none-marked, lay-more, word-laid, row-carry, new-carry}
 use Rattle.matching.proofs.words.step_words.Given as goal
 
 abbrev pub step_of : List ℕ → List ℕ → List ℕ → ℕ → Bool

@@ -1,5 +1,5 @@
 -- The carry of the sum runs through the stars that take over.
-use Rattle.std.proofs.Common.{arith, rules}
+use Rattle.std.proofs.Common.{arith}
 use Rattle.matching.proofs.WordBits.{word_over}
 use Rattle.matching.proofs.words.take_over.Goals as goal
 

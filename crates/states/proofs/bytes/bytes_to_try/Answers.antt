@@ -1,6 +1,5 @@
 -- What is left out follows another byte, or it is not named and not the lowest such byte.
 use Rattle.states.proofs.ByteSets.{to-try}
-use borrow.Author.Rules.{rules}
 use Rattle.states.proofs.bytes.bytes_to_try.Goals as goal
 
 pub returns : goal.returns

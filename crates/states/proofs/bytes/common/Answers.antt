@@ -6,7 +6,6 @@ use lib.ListN.{get_or}
 use Rattle.matching.specs.Machinery.Rows.{row_bit}
 use Rattle.states.proofs.BitsOfWords.{bit-and}
 use Rattle.states.proofs.ByteSets.{two-words, low_bit, high_bit}
-use borrow.Author.Rules.{rules}
 use Rattle.states.proofs.bytes.common.Goals as goal
 
 pub returns : goal.returns

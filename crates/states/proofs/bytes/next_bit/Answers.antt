@@ -3,7 +3,6 @@ use Prim.Native.Nat.{◌/◌, ◌^◌, ◌<◌}
 use native.Mathlib.Omega.{arith}
 use lib.Count.{trailing_le}
 use Rattle.states.proofs.ByteSets.{next-none, next-some}
-use borrow.Author.Rules.{rules}
 use Rattle.states.proofs.bytes.next_bit.Goals as goal
 
 pub returns-then-left-eq0 : goal.returns-then-left-eq0

@@ -1,7 +1,6 @@
 -- By the first word from the byte on, then by the second.
 use native.Mathlib.Omega.{arith}
 use Rattle.states.proofs.ByteSets.{next_low, next-over}
-use borrow.Author.Rules.{rules}
 use Rattle.states.proofs.bytes.next_byte.Goals as goal
 
 pub returns-then-bit-lt64 : goal.returns-then-bit-lt64

@@ -1,7 +1,6 @@
 -- The next bit of the second word, and 127 where that is none or the last.
 use native.Mathlib.Omega.{arith}
 use Rattle.states.proofs.ByteSets.{next-high-some, next-high-none}
-use borrow.Author.Rules.{rules}
 use Rattle.states.proofs.bytes.next_high.Goals as goal
 
 pub returns-then-bit-ge63 : goal.returns-then-bit-ge63

@@ -3,7 +3,6 @@ use mathlib.Core.Path.{◌∙◌, ap}
 use mathlib.Core.Bool.{not}
 use Rattle.matching.specs.Machinery.Rows.{row_bit}
 use Rattle.states.proofs.ByteSets.{two-words, low_bit, high_bit}
-use borrow.Author.Rules.{rules}
 use Rattle.states.proofs.bytes.others.Goals as goal
 
 pub returns : goal.returns

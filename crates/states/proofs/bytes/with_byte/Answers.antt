@@ -10,7 +10,6 @@ use lib.Pow.{pow-lt}
 use borrow.Author.Tests.{ne_eqb}
 use Rattle.states.specs.Machinery.Bytes.{Adds}
 use Rattle.states.proofs.ByteSets.{adds-byte, adds_none}
-use borrow.Author.Rules.{rules}
 use Rattle.states.proofs.bytes.with_byte.Goals as goal
 
 pub returns-then-b-gt127 : goal.returns-then-b-gt127

@@ -6,7 +6,6 @@ use native.Mathlib.Omega.{arith}
 use Rattle.states.specs.Machinery.Bytes.{Names, ToTry}
 use Rattle.states.proofs.TakenRows.{pair-at}
 use Rattle.states.proofs.Trying.{enough}
-use borrow.Author.Rules.{rules}
 use Rattle.states.proofs.explore.bytes_from.Goals as goal
 
 pub returns : goal.returns

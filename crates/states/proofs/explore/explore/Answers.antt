@@ -1,4 +1,4 @@
-use Prim.Native.Nat.{ℕ, ◌+◌, ◌-◌, ◌*◌, ◌≤◌}
+use Prim.Native.Nat.{ℕ, ◌+◌, ◌-◌, ◌*◌}
 use mathlib.Core.Path.{◌≡◌, refl, sym, ap, ◌∙◌, subst}
 use mathlib.Core.List.{List}
 use mathlib.Core.Logic.{inl, inr}
@@ -10,7 +10,6 @@ use Rattle.states.specs.Machinery.Search.{Partial, Untouched}
 use Rattle.states.proofs.RowsInWords.{row_laid, behind-kept, untouched-same, untouched-both, untouched-first}
 use Rattle.states.proofs.Stepping.{search-begins, search-goes-on, search-ends, first-length}
 use Rattle.states.proofs.TakenRows.{searchable-stays}
-use borrow.Author.Rules.{rules}
 use Rattle.states.proofs.explore.explore.Goals as goal
 
 pub loop-row-init : goal.loop-row-init
@@ -47,8 +46,7 @@ try_bytes-found-requires c =
     let stay : drop codes_at c.put_row.new.words ≡ drop codes_at words =
     ap (drop codes_at) c.put_row.ensures ∙ behind-kept words 0 codes_at c.first_state-first.result eight (omega arith) in
     let l = c.loop-row in
-    let a = c.args in
-    (
+    let a = c.args in (
       searchable-stays a.words.now l.words (l.invariant.2 ∙ stay) a.positions
           (l.invariant.1 ∙ c.put_row.auto.words) c.requires,
       omega arith,

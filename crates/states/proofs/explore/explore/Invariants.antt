@@ -1,17 +1,9 @@
 -- All steps from the rows before the one at hand were tried: that is the invariant. The loop ends when the row at hand is behind the last.
-use Prim.Native.Nat.{ℕ, ◌+◌, ◌-◌, ◌*◌, ◌≤◌}
-use mathlib.Core.Path.{◌≡◌, refl, sym, ap, ◌∙◌, subst}
-use mathlib.Core.List.{List}
-use mathlib.Core.Logic.{inl, inr}
-use native.Mathlib.Omega.{arith}
-use lib.ListN.{length, take, drop}
-use Rattle.matching.specs.Machinery.Rows.{first_row}
-use Rattle.states.specs.Machinery.Rows.{codes_at, codes_laid, row_at}
+use Prim.Native.Nat.{◌-◌, ◌*◌, ◌≤◌}
+use mathlib.Core.Path.{◌≡◌}
+use lib.ListN.{length, drop}
+use Rattle.states.specs.Machinery.Rows.{codes_at, codes_laid}
 use Rattle.states.specs.Machinery.Search.{Partial, Untouched}
-use Rattle.states.proofs.RowsInWords.{row_laid, behind-kept, untouched-same, untouched-both, untouched-first}
-use Rattle.states.proofs.Stepping.{search-begins, search-goes-on, search-ends, first-length}
-use Rattle.states.proofs.TakenRows.{searchable-stays}
-use borrow.Author.Rules.{rules}
 use Rattle.states.proofs.explore.explore.Given as goal
 
 abbrev pub invariant-loop-row : goal.invariant-loop-row

@@ -1,16 +1,15 @@
-use Prim.Native.Nat.{ℕ, ◌+◌, ◌-◌, ◌*◌, ◌≤◌}
-use mathlib.Core.Path.{◌≡◌, refl, sym, ap, ◌∙◌, subst}
+use Prim.Native.Nat.{ℕ, ◌+◌, ◌*◌}
+use mathlib.Core.Path.{refl, sym, ap, ◌∙◌, subst}
 use mathlib.Core.List.{List}
 use mathlib.Core.Logic.{inl, inr}
 use native.Mathlib.Omega.{arith}
-use lib.ListN.{length, take, drop}
-use Rattle.states.specs.Machinery.Rows.{codes_at, codes_laid, row_at}
-use Rattle.states.specs.Machinery.Search.{Enough, Partial, Untouched}
+use lib.ListN.{take}
+use Rattle.states.specs.Machinery.Rows.{codes_laid}
+use Rattle.states.specs.Machinery.Search.{Enough, Partial}
 use Rattle.states.proofs.RowsInWords.{untouched-same, untouched-both}
 use Rattle.states.proofs.Stepping.{search-later, search-goes-on, search-ends}
 use Rattle.states.proofs.TakenRows.{searchable-stays}
 use Rattle.states.proofs.Trying.{skip-to}
-use borrow.Author.Rules.{rules}
 use Rattle.states.proofs.explore.try_bytes.Goals as goal
 
 pub loop-b-init : goal.loop-b-init
@@ -32,8 +31,7 @@ loop-b-init c =
 pub try_step-more-requires : goal.try_step-more-requires
 try_step-more-requires c =
     let l = c.loop-b in
-    let a = c.args in
-    (
+    let a = c.args in (
       searchable-stays a.words.now l.words l.invariant.4 a.positions l.invariant.3 c.requires.0,
       omega (arith, c.requires.1, l.invariant.2),
       (omega arith, omega arith),

@@ -1,17 +1,9 @@
 -- The steps by the bytes before the one at hand were tried, or lead where these led: that is the invariant.
-use Prim.Native.Nat.{ℕ, ◌+◌, ◌-◌, ◌*◌, ◌≤◌}
-use mathlib.Core.Path.{◌≡◌, refl, sym, ap, ◌∙◌, subst}
-use mathlib.Core.List.{List}
-use mathlib.Core.Logic.{inl, inr}
-use native.Mathlib.Omega.{arith}
-use lib.ListN.{length, take, drop}
+use Prim.Native.Nat.{◌+◌, ◌-◌, ◌*◌, ◌≤◌}
+use mathlib.Core.Path.{◌≡◌}
+use lib.ListN.{length, drop}
 use Rattle.states.specs.Machinery.Rows.{codes_at, codes_laid, row_at}
-use Rattle.states.specs.Machinery.Search.{Enough, Partial, Untouched}
-use Rattle.states.proofs.RowsInWords.{untouched-same, untouched-both}
-use Rattle.states.proofs.Stepping.{search-later, search-goes-on, search-ends}
-use Rattle.states.proofs.TakenRows.{searchable-stays}
-use Rattle.states.proofs.Trying.{skip-to}
-use borrow.Author.Rules.{rules}
+use Rattle.states.specs.Machinery.Search.{Partial, Untouched}
 use Rattle.states.proofs.explore.try_bytes.Given as goal
 
 abbrev pub invariant-loop-b : goal.invariant-loop-b

@@ -12,7 +12,6 @@ use Rattle.states.specs.Machinery.Search.{step_from, Partial, Untouched}
 use Rattle.states.proofs.RowsInWords.{with_row, with-other-row, with-kept, with-untouched, untouched-same}
 use Rattle.states.proofs.Stepping.{step-known, step-over, step-new, step-length}
 use Rattle.states.proofs.TakenRows.{step-leads}
-use borrow.Author.Rules.{rules}
 use Rattle.states.proofs.explore.try_step.Goals as goal
 
 pub returns-then-at-n : goal.returns-then-at-n
@@ -28,12 +27,15 @@ returns-then-at-n c =
     ∙ ap₂ (λ (n : ℕ) (row : List ℕ). words_row ((a.positions + 63) / 64) (take n (drop at words)) (stars_laid words) row)
     {x = at + 8 - at} {y = 8} (omega arith) c.requires.3
     ∙ step-leads a.positions words c.requires.0 a.i a.b c.requires.2 in known_leads) in
-    let found = c.find_row-at.ensures in record { searched = record {
+    let found = c.find_row-at.ensures in record {
+      searched = record {
         kept = refl;
         untouched = untouched-same words a.n;
         more = omega arith;
         answer = inl (c.requires.4.few, step-known codes words a.n a.i a.b c.requires.4 c.requires.1 c.requires.2 c.find_row-at.result c.if-at-n.true (found.here c.if-at-n.true ∙ row));
-      }; kept = refl }
+      };
+      kept = refl;
+    }
 
 pub returns-then-n-ge-MOST_STATES : goal.returns-then-n-ge-MOST_STATES
 returns-then-n-ge-MOST_STATES c =
@@ -48,12 +50,15 @@ returns-then-n-ge-MOST_STATES c =
     ∙ ap₂ (λ (n : ℕ) (row : List ℕ). words_row ((a.positions + 63) / 64) (take n (drop at words)) (stars_laid words) row)
     {x = at + 8 - at} {y = 8} (omega arith) c.requires.3
     ∙ step-leads a.positions words c.requires.0 a.i a.b c.requires.2 in known_leads) in
-    let found = c.find_row-at.ensures in record { searched = record {
+    let found = c.find_row-at.ensures in record {
+      searched = record {
         kept = refl;
         untouched = untouched-same words (suc most_states);
         more = omega (arith, c.requires.4.few);
         answer = inr (refl, step-over codes words a.n a.i a.b c.requires.4 c.requires.1 c.requires.2 (omega arith) (λ j l same. found.before j (omega arith) (same ∙ sym row)));
-      }; kept = refl }
+      };
+      kept = refl;
+    }
 
 pub returns : goal.returns
 returns c =
@@ -72,7 +77,8 @@ returns c =
     let result = c.step_words-row.result in
     let eight : length result ≡ 8 = ap length row ∙ step-length codes a.b (row_at words a.i) in
     let space : a.n < most_states = omega arith in
-    let laid = ap (λ (l : List ℕ). set l (keys_at + a.n) (a.i * 128 + a.b)) c.put_row.ensures in record { searched = record {
+    let laid = ap (λ (l : List ℕ). set l (keys_at + a.n) (a.i * 128 + a.b)) c.put_row.ensures in record {
+      searched = record {
         kept = ap (drop codes_at) laid ∙ with-kept words a.n result (a.i * 128 + a.b) eight space (omega (arith, c.requires.0.room));
         untouched =
             subst (λ (l : List ℕ). Untouched words l (a.n + 1)) (sym laid)
@@ -85,5 +91,7 @@ returns c =
                   (subst (λ (m : ℕ). Partial codes (with_row words a.n result (a.i * 128 + a.b)) m (a.i * 128 + a.b + 1)) (sym (add-one a.n))
                   (step-new codes words a.n a.i a.b c.requires.4 c.requires.1 c.requires.2 result row eight space (omega (arith, c.requires.0.room)) (λ j l. found.before j (omega arith)))),
             );
-      }; kept = ap (λ (l : List ℕ). row_at l a.i) laid
-          ∙ with-other-row words a.n result (a.i * 128 + a.b) eight space (omega (arith, c.requires.0.room)) a.i (omega (arith, c.requires.1, c.requires.4.few)) (λ w. omega (arith, c.requires.1)) }
+      };
+      kept = ap (λ (l : List ℕ). row_at l a.i) laid
+          ∙ with-other-row words a.n result (a.i * 128 + a.b) eight space (omega (arith, c.requires.0.room)) a.i (omega (arith, c.requires.1, c.requires.4.few)) (λ w. omega (arith, c.requires.1));
+    }

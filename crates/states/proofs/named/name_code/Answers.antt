@@ -6,7 +6,6 @@ use Rattle.matching.specs.Machinery.Codes.{takes_byte}
 use Rattle.matching.specs.Symbols.{fold_byte}
 use Rattle.states.proofs.CodeBytes.{names-none, names-exact, names-folded}
 use Rattle.states.proofs.ByteSets.{adds_none, adds-as}
-use borrow.Author.Rules.{rules}
 use Rattle.states.proofs.named.name_code.Goals as goal
 
 pub returns-then-code-lt4 : goal.returns-then-code-lt4

@@ -6,7 +6,6 @@ use lib.Dec.{eqb}
 use Rattle.matching.specs.Symbols.{fold_byte}
 use Rattle.states.proofs.CodeBytes.{fold-alone, fold-never, fold-letter}
 use Rattle.states.proofs.ByteSets.{adds_none, adds-as, adds-both}
-use borrow.Author.Rules.{rules}
 use Rattle.states.proofs.named.name_folded.Goals as goal
 
 pub returns-then-b : goal.returns-then-b

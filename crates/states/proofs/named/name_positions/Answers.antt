@@ -1,9 +1,8 @@
-use Prim.Native.Nat.{ℕ, ◌-◌, ◌*◌, ◌≤◌}
+use Prim.Native.Nat.{ℕ, ◌*◌}
 use mathlib.Core.Path.{subst}
 use native.Mathlib.Omega.{arith}
 use Rattle.states.specs.Machinery.Bytes.{Names}
 use Rattle.states.proofs.NamedBytes.{names_more}
-use borrow.Author.Rules.{rules}
 use Rattle.states.proofs.named.name_positions.Goals as goal
 
 pub loop-i-init : goal.loop-i-init

@@ -1,10 +1,6 @@
 -- The bytes of the words before the index are named: that is the invariant.
-use Prim.Native.Nat.{ℕ, ◌-◌, ◌*◌, ◌≤◌}
-use mathlib.Core.Path.{subst}
-use native.Mathlib.Omega.{arith}
+use Prim.Native.Nat.{◌-◌, ◌*◌, ◌≤◌}
 use Rattle.states.specs.Machinery.Bytes.{Names}
-use Rattle.states.proofs.NamedBytes.{names_more}
-use borrow.Author.Rules.{rules}
 use Rattle.states.proofs.named.name_positions.Given as goal
 
 abbrev pub invariant-loop-i : goal.invariant-loop-i

@@ -1,4 +1,4 @@
-use Prim.Native.Nat.{ℕ, ◌+◌, ◌-◌, ◌/◌, ◌^◌, ◌≤◌, ◌<◌}
+use Prim.Native.Nat.{ℕ, ◌+◌, ◌/◌, ◌^◌, ◌≤◌, ◌<◌}
 use mathlib.Core.Path.{◌≡◌, sym, ◌∙◌, ap, subst}
 use native.Mathlib.Nat.{div-one}
 use native.Mathlib.Omega.{arith}
@@ -6,10 +6,8 @@ use lib.Arith.{lt_of_le-ne}
 use lib.Count.{count_trailing_zeros, trailing_le}
 use lib.ListN.{get_or}
 use Rattle.states.specs.Machinery.Rows.{codes_at}
-use Rattle.states.specs.Machinery.Bytes.{NamesWord}
 use Rattle.states.proofs.BitsOfWords.{left-none, left-zeros, left-few, left-next}
 use Rattle.states.proofs.NamedBytes.{names-begin, names-next, names-end}
-use borrow.Author.Rules.{rules}
 use Rattle.states.proofs.named.name_word.Goals as goal
 
 -- the bit that is looked at is one of the word

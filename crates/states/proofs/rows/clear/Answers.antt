@@ -1,10 +1,9 @@
-use Prim.Native.Nat.{ℕ, ◌-◌, ◌≤◌}
+use Prim.Native.Nat.{ℕ}
 use mathlib.Core.Path.{◌≡◌, refl, ◌∙◌, ap}
 use mathlib.Core.List.{List}
 use native.Mathlib.Omega.{arith}
 use lib.ListN.{length, set, length-set, replicate}
-use Rattle.states.proofs.Clearing.{zeros, zeros-more, zeros-all}
-use borrow.Author.Rules.{rules}
+use Rattle.states.proofs.Clearing.{zeros-more, zeros-all}
 use Rattle.states.proofs.rows.clear.Goals as goal
 
 pub loop-i-init : goal.loop-i-init

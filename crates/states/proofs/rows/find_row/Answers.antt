@@ -1,10 +1,8 @@
-use Prim.Native.Nat.{ℕ, ◌-◌, ◌≤◌, ◌<◌}
 use mathlib.Core.Path.{◌≡◌, subst}
 use mathlib.Core.Bool.{Bool}
 use native.Mathlib.Omega.{arith}
 use Rattle.states.specs.Machinery.Rows.{row_at, Tells}
 use Rattle.states.proofs.Below.{below_next}
-use borrow.Author.Rules.{rules}
 use Rattle.states.proofs.rows.find_row.Goals as goal
 
 pub loop-i-init : goal.loop-i-init

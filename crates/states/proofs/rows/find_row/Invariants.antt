@@ -1,11 +1,7 @@
 -- No row before the index is this one: that is the invariant.
 use Prim.Native.Nat.{ℕ, ◌-◌, ◌≤◌, ◌<◌}
-use mathlib.Core.Path.{◌≡◌, subst}
-use mathlib.Core.Bool.{Bool}
-use native.Mathlib.Omega.{arith}
-use Rattle.states.specs.Machinery.Rows.{row_at, Tells}
-use Rattle.states.proofs.Below.{below_next}
-use borrow.Author.Rules.{rules}
+use mathlib.Core.Path.{◌≡◌}
+use Rattle.states.specs.Machinery.Rows.{row_at}
 use Rattle.states.proofs.rows.find_row.Given as goal
 
 abbrev pub invariant-loop-i : goal.invariant-loop-i

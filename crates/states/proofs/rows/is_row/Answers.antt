@@ -1,11 +1,10 @@
-use Prim.Native.Nat.{ℕ, ◌-◌, ◌*◌, ◌≤◌}
-use mathlib.Core.Path.{◌≡◌, refl, sym, ap, ◌∙◌}
+use Prim.Native.Nat.{ℕ}
+use mathlib.Core.Path.{refl, sym, ap, ◌∙◌}
 use mathlib.Core.List.{List}
 use native.Mathlib.Omega.{arith}
-use lib.ListN.{length, get_or, take}
+use lib.ListN.{get_or}
 use Rattle.states.specs.Machinery.Rows.{row_at}
 use Rattle.states.proofs.RowsInWords.{prefix-next, prefix-all, row-length, row_word}
-use borrow.Author.Rules.{rules}
 use Rattle.states.proofs.rows.is_row.Goals as goal
 
 pub loop-k-init : goal.loop-k-init

@@ -1,12 +1,8 @@
 -- The two rows agree before the index: that is the invariant; at the first word that differs they are two.
-use Prim.Native.Nat.{ℕ, ◌-◌, ◌*◌, ◌≤◌}
-use mathlib.Core.Path.{◌≡◌, refl, sym, ap, ◌∙◌}
-use mathlib.Core.List.{List}
-use native.Mathlib.Omega.{arith}
-use lib.ListN.{length, get_or, take}
+use Prim.Native.Nat.{◌-◌, ◌*◌, ◌≤◌}
+use mathlib.Core.Path.{◌≡◌}
+use lib.ListN.{length, take}
 use Rattle.states.specs.Machinery.Rows.{row_at}
-use Rattle.states.proofs.RowsInWords.{prefix-next, prefix-all, row-length, row_word}
-use borrow.Author.Rules.{rules}
 use Rattle.states.proofs.rows.is_row.Given as goal
 
 abbrev pub invariant-loop-k : goal.invariant-loop-k

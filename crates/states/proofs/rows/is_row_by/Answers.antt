@@ -4,7 +4,6 @@ use mathlib.Core.Path.{sym, ap, ◌∙◌}
 use mathlib.Core.List.{List}
 use lib.ListN.{get_or}
 use Rattle.states.proofs.RowsInWords.{row_word}
-use borrow.Author.Rules.{rules}
 use Rattle.states.proofs.rows.is_row_by.Goals as goal
 
 pub returns-then-words-i : goal.returns-then-words-i

@@ -1,12 +1,8 @@
 -- The words before the index are laid down and the others are as they were: that is the invariant.
-use native.Mathlib.Numerals.{add-one}
-use Rattle.stored.proofs.Writing.{pasted}
-use Prim.Native.Nat.{◌+◌, ◌-◌, ◌*◌, ◌≤◌, ◌<◌}
-use mathlib.Core.Path.{◌≡◌, refl, ◌∙◌}
-use native.Mathlib.Omega.{arith}
-use lib.ListN.{length, length-set}
-use lib.Seq.{paste, paste-zero, paste-suc}
-use borrow.Author.Rules.{rules}
+use Prim.Native.Nat.{◌-◌, ◌*◌, ◌≤◌}
+use mathlib.Core.Path.{◌≡◌}
+use lib.ListN.{length}
+use lib.Seq.{paste}
 use Rattle.states.proofs.rows.put_row.Given as goal
 
 abbrev pub invariant-loop-k : goal.invariant-loop-k

@@ -1,11 +1,10 @@
-use lib.ListN.{set, length, get_or, take, length-set}
+use lib.ListN.{set, get_or, length-set}
 use lib.Seq.{take-set-le, get_or-set_same}
-use Prim.Native.Nat.{◌+◌, ◌-◌, ◌*◌, ◌≤◌}
-use mathlib.Core.Path.{◌≡◌, refl, sym, ◌∙◌}
+use Prim.Native.Nat.{◌+◌, ◌*◌}
+use mathlib.Core.Path.{refl, sym, ◌∙◌}
 use native.Mathlib.Omega.{arith}
 use Rattle.states.specs.Machinery.Rows.{row_at}
 use Rattle.states.proofs.RowsInWords.{prefix-next, prefix-all, row-length, row_word}
-use borrow.Author.Rules.{rules}
 use Rattle.states.proofs.rows.row_at.Goals as goal
 
 pub loop-k-init : goal.loop-k-init

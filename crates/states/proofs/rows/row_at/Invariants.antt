@@ -1,12 +1,8 @@
 -- The words before the index are those of the row: that is the invariant.
-use lib.ListN.{set, length, get_or, take, length-set}
-use lib.Seq.{take-set-le, get_or-set_same}
-use Prim.Native.Nat.{◌+◌, ◌-◌, ◌*◌, ◌≤◌}
-use mathlib.Core.Path.{◌≡◌, refl, sym, ◌∙◌}
-use native.Mathlib.Omega.{arith}
+use lib.ListN.{length, take}
+use Prim.Native.Nat.{◌-◌, ◌*◌, ◌≤◌}
+use mathlib.Core.Path.{◌≡◌}
 use Rattle.states.specs.Machinery.Rows.{row_at}
-use Rattle.states.proofs.RowsInWords.{prefix-next, prefix-all, row-length, row_word}
-use borrow.Author.Rules.{rules}
 use Rattle.states.proofs.rows.row_at.Given as goal
 
 abbrev pub invariant-loop-k : goal.invariant-loop-k

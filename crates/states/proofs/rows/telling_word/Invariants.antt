@@ -1,6 +1,5 @@
 -- The index stays below 8.
 use Prim.Native.Nat.{◌<◌}
-use borrow.Author.Rules.{rules}
 use Rattle.states.proofs.rows.telling_word.Given as goal
 
 abbrev pub invariant-loop-k : goal.invariant-loop-k

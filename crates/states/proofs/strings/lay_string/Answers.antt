@@ -6,9 +6,8 @@ use lib.ListN.{length, set, length-set}
 use lib.Seq.{sets}
 use Rattle.matching.specs.Machinery.Rows.{forward}
 use Rattle.states.specs.Machinery.Rows.{key_at}
-use Rattle.states.specs.Machinery.Search.{chain, string_of}
+use Rattle.states.specs.Machinery.Search.{chain}
 use Rattle.states.proofs.StringsOfRows.{chain-short, chain-parent, length-forward, sets_last}
-use borrow.Author.Rules.{rules}
 use Rattle.states.proofs.strings.lay_string.Goals as goal
 
 pub loop-row-init : goal.loop-row-init

@@ -1,15 +1,10 @@
 -- The string of the row at hand is still to be laid down, in front of what is there already: that is the invariant.
-use Prim.Native.Nat.{ℕ, suc, ◌+◌, ◌-◌, ◌/◌, ◌%◌, ◌<◌}
-use mathlib.Core.Path.{◌≡◌, refl, sym, ap, ◌∙◌}
-use mathlib.Core.List.{List, ◌∷◌}
-use native.Mathlib.Omega.{arith}
-use lib.ListN.{length, set, length-set}
+use Prim.Native.Nat.{◌<◌}
+use mathlib.Core.Path.{◌≡◌}
+use lib.ListN.{length}
 use lib.Seq.{sets}
 use Rattle.matching.specs.Machinery.Rows.{forward}
-use Rattle.states.specs.Machinery.Rows.{key_at}
 use Rattle.states.specs.Machinery.Search.{chain, string_of}
-use Rattle.states.proofs.StringsOfRows.{chain-short, chain-parent, length-forward, sets_last}
-use borrow.Author.Rules.{rules}
 use Rattle.states.proofs.strings.lay_string.Given as goal
 
 abbrev pub invariant-loop-row : goal.invariant-loop-row

@@ -1,10 +1,9 @@
-use Prim.Native.Nat.{ℕ, ◌+◌, ◌≤◌, ◌<◌}
+use Prim.Native.Nat.{ℕ}
 use mathlib.Core.Path.{◌≡◌, ap}
 use native.Mathlib.Omega.{arith}
 use lib.ListN.{length}
 use Rattle.states.specs.Machinery.Search.{chain}
 use Rattle.states.proofs.StringsOfRows.{chain-parent, length-forward}
-use borrow.Author.Rules.{rules}
 use Rattle.states.proofs.strings.string_length.Goals as goal
 
 pub loop-row-init : goal.loop-row-init

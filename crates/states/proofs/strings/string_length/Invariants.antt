@@ -1,11 +1,8 @@
 -- What is counted so far and the string of the row at hand make the whole length: that is the invariant.
-use Prim.Native.Nat.{ℕ, ◌+◌, ◌≤◌, ◌<◌}
-use mathlib.Core.Path.{◌≡◌, ap}
-use native.Mathlib.Omega.{arith}
+use Prim.Native.Nat.{◌+◌, ◌≤◌, ◌<◌}
+use mathlib.Core.Path.{◌≡◌}
 use lib.ListN.{length}
 use Rattle.states.specs.Machinery.Search.{chain}
-use Rattle.states.proofs.StringsOfRows.{chain-parent, length-forward}
-use borrow.Author.Rules.{rules}
 use Rattle.states.proofs.strings.string_length.Given as goal
 
 abbrev pub invariant-loop-row : goal.invariant-loop-row

@@ -1,9 +1,6 @@
-use Prim.Native.Nat.{◌-◌, ◌≤◌}
 use native.Mathlib.Omega.{arith}
 use Rattle.states.specs.Machinery.Rows.{taken_laid}
-use Rattle.states.specs.Machinery.Taken.{FollowersBelow}
 use Rattle.states.proofs.Followers.{followers-begin, followers-end}
-use borrow.Author.Rules.{rules}
 use Rattle.states.proofs.taken.followers_of.Goals as goal
 
 pub loop-b-init : goal.loop-b-init

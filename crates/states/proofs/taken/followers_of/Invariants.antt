@@ -1,10 +1,7 @@
 -- The set has the followers below the byte at hand: that is the invariant.
 use Prim.Native.Nat.{◌-◌, ◌≤◌}
-use native.Mathlib.Omega.{arith}
 use Rattle.states.specs.Machinery.Rows.{taken_laid}
 use Rattle.states.specs.Machinery.Taken.{FollowersBelow}
-use Rattle.states.proofs.Followers.{followers-begin, followers-end}
-use borrow.Author.Rules.{rules}
 use Rattle.states.proofs.taken.followers_of.Given as goal
 
 abbrev pub invariant-loop-b : goal.invariant-loop-b

@@ -2,7 +2,6 @@
 use native.Mathlib.Omega.{arith}
 use lib.ListN.{get_or, length-set}
 use Rattle.states.proofs.TakenRows.{followers-set}
-use borrow.Author.Rules.{rules}
 use Rattle.states.proofs.taken.lay_followers.Goals as goal
 
 pub bounds-words : goal.bounds-words

@@ -1,10 +1,9 @@
-use Prim.Native.Nat.{◌+◌, ◌-◌, ◌≤◌}
-use mathlib.Core.Path.{◌≡◌, refl, ◌∙◌}
+use Prim.Native.Nat.{◌+◌}
+use mathlib.Core.Path.{refl, ◌∙◌}
 use native.Mathlib.Omega.{arith}
-use lib.ListN.{length, get_or}
+use lib.ListN.{get_or}
 use Rattle.states.specs.Machinery.Rows.{codes_at, codes_laid}
-use Rattle.states.proofs.TakenRows.{with_rows, cleared-length, RowsUpto, rows-begin, rows_start, rows_next, rows_end, rows_whole, code_read}
-use borrow.Author.Rules.{rules}
+use Rattle.states.proofs.TakenRows.{with_rows, cleared-length, rows-begin, rows_start, rows_next, rows_end, rows_whole, code_read}
 use Rattle.states.proofs.taken.lay_rows.Goals as goal
 
 pub loop-p-init : goal.loop-p-init

@@ -1,11 +1,9 @@
 -- The rows of the bytes have the positions before the one at hand: that is the invariant.
-use Prim.Native.Nat.{◌+◌, ◌-◌, ◌≤◌}
-use mathlib.Core.Path.{◌≡◌, refl, ◌∙◌}
-use native.Mathlib.Omega.{arith}
-use lib.ListN.{length, get_or}
-use Rattle.states.specs.Machinery.Rows.{codes_at, codes_laid}
-use Rattle.states.proofs.TakenRows.{with_rows, cleared-length, RowsUpto, rows-begin, rows_start, rows_next, rows_end, rows_whole, code_read}
-use borrow.Author.Rules.{rules}
+use Prim.Native.Nat.{◌-◌, ◌≤◌}
+use mathlib.Core.Path.{◌≡◌}
+use lib.ListN.{length}
+use Rattle.states.specs.Machinery.Rows.{codes_laid}
+use Rattle.states.proofs.TakenRows.{RowsUpto}
 use Rattle.states.proofs.taken.lay_rows.Given as goal
 
 abbrev pub invariant-loop-p : goal.invariant-loop-p

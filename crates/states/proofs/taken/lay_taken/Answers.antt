@@ -8,7 +8,6 @@ use Rattle.matching.specs.Machinery.Words.{star_row}
 use Rattle.states.specs.Machinery.Rows.{codes_at}
 use Rattle.states.specs.Machinery.Taken.{FollowersSet}
 use Rattle.states.proofs.TakenRows.{taken-laid}
-use borrow.Author.Rules.{rules}
 use Rattle.states.proofs.taken.lay_taken.Goals as goal
 
 pub returns : goal.returns

@@ -1,14 +1,12 @@
-use Prim.Native.Nat.{ℕ, ◌+◌, ◌-◌, ◌≤◌}
-use mathlib.Core.Path.{◌≡◌, refl, sym, ◌∙◌, subst}
+use Prim.Native.Nat.{ℕ, ◌+◌}
+use mathlib.Core.Path.{refl, sym, ◌∙◌, subst}
 use mathlib.Core.Bool.{true}
 use mathlib.Core.List.{List}
 use native.Mathlib.Omega.{arith}
 use lib.Dec.{ltb}
-use lib.ListN.{length}
 use borrow.Author.Tests.{lt-ltb, le-ltb}
 use Rattle.states.specs.Machinery.Taken.{Marks}
 use Rattle.states.proofs.MarkedBytes.{marks-none, marks-as, marks-next}
-use borrow.Author.Rules.{rules}
 use Rattle.states.proofs.taken.mark_all.Goals as goal
 
 pub loop-b-init : goal.loop-b-init
@@ -19,8 +17,7 @@ loop-b-init c =
 pub loop-b-preserved : goal.loop-b-preserved
 loop-b-preserved c =
     let a = c.args in
-    let l = c.loop-b in
-    (
+    let l = c.loop-b in (
       omega arith,
       omega arith,
       c.mark_at.auto.words ∙ l.invariant.2,

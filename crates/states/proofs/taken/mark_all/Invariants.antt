@@ -1,15 +1,9 @@
 -- The rows of the bytes below the one at hand are marked: that is the invariant.
-use Prim.Native.Nat.{ℕ, ◌+◌, ◌-◌, ◌≤◌}
-use mathlib.Core.Path.{◌≡◌, refl, sym, ◌∙◌, subst}
-use mathlib.Core.Bool.{true}
-use mathlib.Core.List.{List}
-use native.Mathlib.Omega.{arith}
+use Prim.Native.Nat.{◌-◌, ◌≤◌}
+use mathlib.Core.Path.{◌≡◌}
 use lib.Dec.{ltb}
 use lib.ListN.{length}
-use borrow.Author.Tests.{lt-ltb, le-ltb}
 use Rattle.states.specs.Machinery.Taken.{Marks}
-use Rattle.states.proofs.MarkedBytes.{marks-none, marks-as, marks-next}
-use borrow.Author.Rules.{rules}
 use Rattle.states.proofs.taken.mark_all.Given as goal
 
 abbrev pub invariant-loop-b : goal.invariant-loop-b

@@ -7,7 +7,6 @@ use lib.Dec.{eqb}
 use borrow.Author.Tests.{ne_eqb}
 use Rattle.states.specs.Machinery.Taken.{Marks}
 use Rattle.states.proofs.MarkedBytes.{marks-none, marks-byte}
-use borrow.Author.Rules.{rules}
 use Rattle.states.proofs.taken.mark_byte.Goals as goal
 
 pub returns-then-b : goal.returns-then-b

@@ -8,7 +8,6 @@ use Rattle.matching.specs.Symbols.{fold_byte}
 use Rattle.states.specs.Machinery.Taken.{takes}
 use Rattle.states.proofs.MarkedBytes.{marks-none, marks-as}
 use Rattle.states.proofs.CodeBytes.{names-none, names-exact, names-folded, takes_all, takes-named}
-use borrow.Author.Rules.{rules}
 use Rattle.states.proofs.taken.mark_code.Goals as goal
 
 pub returns-then-code-eq-BEHIND_ONE : goal.returns-then-code-eq-BEHIND_ONE

@@ -6,7 +6,6 @@ use lib.Dec.{eqb}
 use Rattle.matching.specs.Symbols.{fold_byte}
 use Rattle.states.proofs.MarkedBytes.{marks-none, marks-as, marks-both}
 use Rattle.states.proofs.CodeBytes.{fold-alone, fold-never, fold-letter}
-use borrow.Author.Rules.{rules}
 use Rattle.states.proofs.taken.mark_folded.Goals as goal
 
 pub returns-then-b : goal.returns-then-b

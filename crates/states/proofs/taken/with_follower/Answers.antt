@@ -4,7 +4,6 @@ use mathlib.Core.Path.{◌≡◌, sym, ◌∙◌, subst}
 use mathlib.Core.Bool.{Bool}
 use Rattle.states.specs.Machinery.Rows.{row_at, taken_laid, Tells}
 use Rattle.states.proofs.Followers.{followers-more, followers-same}
-use borrow.Author.Rules.{rules}
 use Rattle.states.proofs.taken.with_follower.Goals as goal
 
 pub returns-then-is_row : goal.returns-then-is_row

@@ -1,5 +1,4 @@
 -- `stored::machine::admit` meets its contract: what the kind decides comes first, then what the whole record decides, as in `admit_item`.
-use borrow.Author.Rules.{rules}
 use mathlib.Core.Path.{sym, ◌∙◌}
 use borrow.Author.Tests.{eq-eqb, ne_eqb}
 use Rattle.stored.specs.Machine.{admit_item}

@@ -1,7 +1,6 @@
 -- A count of trailing zeros that reaches the length is what the definition says of the low bits; the address 0 has none set.
 use native.Mathlib.Nat.{zero-mod}
 use native.Mathlib.Omega.{arith}
-use borrow.Author.Rules.{rules}
 use borrow.Author.Tests.{le-leb, lt-leb}
 use Rattle.stored.proofs.LowBits.{low-bits-zero}
 use Rattle.stored.proofs.networks.is_sound_network.Goals as goal

@@ -1,10 +1,7 @@
-use Prim.Native.Nat.{◌≤◌, ◌-◌}
-use mathlib.Core.Path.{◌≡◌, sym, ◌∙◌}
-use lib.ListN.{drop}
+use mathlib.Core.Path.{sym, ◌∙◌}
 use borrow.Author.Rules.{rules}
-use Rattle.stored.specs.Operators.{operator_of}
 use Rattle.stored.proofs.Lists.{none_left}
-use Rattle.stored.proofs.OperatorTable.{rows, first_with, searched, found, passed}
+use Rattle.stored.proofs.OperatorTable.{rows, searched, found, passed}
 use Rattle.stored.proofs.operators.operator_of.Goals as goal
 
 pub loop-i-init : goal.loop-i-init

@@ -1,11 +1,9 @@
 -- No row before the index has the code, so the rows from it on decide: that is the invariant.
 use Prim.Native.Nat.{◌≤◌, ◌-◌}
-use mathlib.Core.Path.{◌≡◌, sym, ◌∙◌}
+use mathlib.Core.Path.{◌≡◌}
 use lib.ListN.{drop}
-use borrow.Author.Rules.{rules}
 use Rattle.stored.specs.Operators.{operator_of}
-use Rattle.stored.proofs.Lists.{none_left}
-use Rattle.stored.proofs.OperatorTable.{rows, first_with, searched, found, passed}
+use Rattle.stored.proofs.OperatorTable.{rows, first_with}
 use Rattle.stored.proofs.operators.operator_of.Given as goal
 
 abbrev pub invariant-loop-i : goal.invariant-loop-i

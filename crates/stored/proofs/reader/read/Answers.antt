@@ -1,12 +1,11 @@
 use borrow.Author.Rules.{rules}
-use mathlib.Core.Path.{◌≡◌, sym, ◌∙◌}
-use Prim.Native.Nat.{◌≤◌, ◌-◌}
+use mathlib.Core.Path.{sym, ◌∙◌}
+use Prim.Native.Nat.{◌-◌}
 use native.Mathlib.Omega.{arith}
 use native.Mathlib.Nat.{sub-zero}
 use lib.ListN.{length}
 use borrow.Author.Tests.{lt-ltb, le-ltb}
-use Rattle.stored.specs.Machine.{fresh_state}
-use Rattle.stored.specs.Reading.{read_from, reading}
+use Rattle.stored.specs.Reading.{reading}
 use Rattle.stored.proofs.Steps.{goes-inside, goes, stops, at-end}
 use Rattle.stored.proofs.reader.read.Goals as goal
 

@@ -1,15 +1,10 @@
 -- `stored::reader::read` meets its contract: the loop keeps what is left to read: the records from the place at hand give the answer for the whole table. Each record moves
 -- the place on.
-use borrow.Author.Rules.{rules}
-use mathlib.Core.Path.{◌≡◌, sym, ◌∙◌}
+use mathlib.Core.Path.{◌≡◌}
 use Prim.Native.Nat.{◌≤◌, ◌-◌}
-use native.Mathlib.Omega.{arith}
-use native.Mathlib.Nat.{sub-zero}
 use lib.ListN.{length}
-use borrow.Author.Tests.{lt-ltb, le-ltb}
 use Rattle.stored.specs.Machine.{fresh_state}
-use Rattle.stored.specs.Reading.{read_from, reading}
-use Rattle.stored.proofs.Steps.{goes-inside, goes, stops, at-end}
+use Rattle.stored.specs.Reading.{read_from}
 use Rattle.stored.proofs.reader.read.Given as goal
 
 abbrev pub invariant-loop-at : goal.invariant-loop-at

@@ -1,5 +1,4 @@
 -- `stored::reader::step_at` meets its contract: the test is that of `step_at`.
-use borrow.Author.Rules.{rules}
 use mathlib.Core.Path.{sym, ◌∙◌}
 use borrow.Author.Tests.{eq-eqb, ne_eqb}
 use Rattle.stored.specs.Reading.{step_at}

@@ -1,5 +1,4 @@
 -- `stored::reader::taken` meets its contract: the arms are those of `taken_record`; a record lies inside the table, so that its body is a part of it.
-use borrow.Author.Rules.{rules}
 use mathlib.Core.Path.{sym, ◌∙◌}
 use native.Mathlib.Omega.{arith}
 use native.Mathlib.Nat.{add-sub_cancel_left}

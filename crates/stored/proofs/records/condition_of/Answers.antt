@@ -1,5 +1,4 @@
 -- `stored::records::condition_of` meets its contract: the arms are those of `condition_of_found`, at what the two look-ups found.
-use borrow.Author.Rules.{rules}
 use mathlib.Core.Path.{sym, ◌∙◌}
 use Rattle.stored.proofs.records.condition_of.Goals as goal
 

@@ -1,5 +1,4 @@
 -- `stored::records::decode` meets its contract: the arms are those of `decode_of`, each at the body's first bytes.
-use borrow.Author.Rules.{rules}
 use Rattle.stored.proofs.records.decode.Goals as goal
 
 pub returns-in-Start : goal.returns-in-Start

@@ -1,5 +1,4 @@
 -- `stored::records::record_at` meets its contract: the test is that of `record_at`, and the rest is `record_behind`.
-use borrow.Author.Rules.{rules}
 use borrow.Author.Tests.{lt-ltb, le-ltb}
 use Rattle.stored.specs.Records.{record_at}
 use Rattle.stored.proofs.records.record_at.Goals as goal

@@ -1,5 +1,4 @@
 -- `stored::records::record_behind` meets its contract: the test is that of `record_behind`, and the body is the part of the table that it takes.
-use borrow.Author.Rules.{rules}
 use mathlib.Core.Path.{sym, ◌∙◌}
 use borrow.Author.Tests.{lt-ltb, le-ltb}
 use native.Mathlib.Nat.{add-sub_cancel_left}

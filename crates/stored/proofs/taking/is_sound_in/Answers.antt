@@ -1,5 +1,4 @@
 -- `stored::taking::is_sound_in` meets its contract: the tests are those of `sound_in`.
-use borrow.Author.Rules.{rules}
 use mathlib.Core.Path.{sym, ◌∙◌}
 use Rattle.stored.proofs.taking.is_sound_in.Goals as goal
 

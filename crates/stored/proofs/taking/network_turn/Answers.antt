@@ -1,5 +1,4 @@
 -- `stored::taking::network_turn` meets its contract: the tests come in the order of `network_turn`.
-use borrow.Author.Rules.{rules}
 use mathlib.Core.Path.{sym, ◌∙◌}
 use borrow.Author.Tests.{le-leb, lt-leb}
 use Rattle.stored.proofs.taking.network_turn.Goals as goal

@@ -1,5 +1,4 @@
 -- `stored::taking::take_turn` meets its contract: the arms are those of `turn_of`.
-use borrow.Author.Rules.{rules}
 use Rattle.stored.proofs.taking.take_turn.Goals as goal
 
 pub returns-in-Start : goal.returns-in-Start

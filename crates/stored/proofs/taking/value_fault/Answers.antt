@@ -1,5 +1,4 @@
 -- `stored::taking::value_fault` meets its contract: the tests come in the order of `value_fault`.
-use borrow.Author.Rules.{rules}
 use mathlib.Core.Path.{sym, ◌∙◌}
 use borrow.Author.Tests.{eq-eqb, ne_eqb, lt-ltb, le-ltb}
 use Rattle.stored.proofs.taking.value_fault.Goals as goal

@@ -1,5 +1,4 @@
 -- `stored::taking::value_turn` meets its contract: the tests come in the order of `value_turn`.
-use borrow.Author.Rules.{rules}
 use mathlib.Core.Path.{sym, ◌∙◌}
 use borrow.Author.Tests.{eq-eqb, ne_eqb, le-leb, lt-leb}
 use Rattle.stored.proofs.taking.value_turn.Goals as goal

@@ -1,8 +1,8 @@
-use Prim.Native.Nat.{ℕ, ◌+◌, ◌-◌, ◌≤◌}
+use Prim.Native.Nat.{ℕ, ◌+◌}
 use mathlib.Core.Path.{◌≡◌, refl, sym, ap, ◌∙◌}
 use mathlib.Core.Bool.{Bool, true, false, ◌&&◌, ◌||◌, or_assoc}
 use mathlib.Core.List.{List, ◌∷◌}
-use lib.ListN.{length, get_or, drop}
+use lib.ListN.{get_or, drop}
 use lib.Dec.{eqb}
 use borrow.Author.Rules.{rules}
 use Rattle.stored.specs.Values.{has_variable}

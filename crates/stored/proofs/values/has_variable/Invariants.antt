@@ -1,13 +1,10 @@
 -- The invariant: `${` was found, or begins with the byte before the index, or stands in the bytes from the index on.
-use Prim.Native.Nat.{ℕ, ◌+◌, ◌-◌, ◌≤◌}
-use mathlib.Core.Path.{◌≡◌, refl, sym, ap, ◌∙◌}
-use mathlib.Core.Bool.{Bool, true, false, ◌&&◌, ◌||◌, or_assoc}
-use mathlib.Core.List.{List, ◌∷◌}
+use Prim.Native.Nat.{◌-◌, ◌≤◌}
+use mathlib.Core.Path.{◌≡◌}
+use mathlib.Core.Bool.{◌&&◌, ◌||◌}
 use lib.ListN.{length, get_or, drop}
 use lib.Dec.{eqb}
-use borrow.Author.Rules.{rules}
 use Rattle.stored.specs.Values.{has_variable}
-use Rattle.stored.proofs.Lists.{left, none_left}
 use Rattle.stored.proofs.values.has_variable.Given as goal
 
 abbrev pub invariant-loop-i : goal.invariant-loop-i

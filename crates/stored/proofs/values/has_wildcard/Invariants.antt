@@ -1,12 +1,9 @@
 -- The invariant: a wildcard was found, or stands in the bytes from the index on.
-use Prim.Native.Nat.{ℕ, ◌+◌, ◌-◌, ◌≤◌}
-use mathlib.Core.Path.{◌≡◌, sym, ap, ◌∙◌}
-use mathlib.Core.Bool.{Bool, ◌||◌, or_assoc, or-false}
-use mathlib.Core.List.{List}
+use Prim.Native.Nat.{◌-◌, ◌≤◌}
+use mathlib.Core.Path.{◌≡◌}
+use mathlib.Core.Bool.{◌||◌}
 use lib.ListN.{length, drop}
 use Rattle.stored.specs.Values.{has_wildcard}
-use Rattle.stored.proofs.Lists.{left, none_left}
-use borrow.Author.Rules.{rules}
 use Rattle.stored.proofs.values.has_wildcard.Given as goal
 
 abbrev pub invariant-loop-i : goal.invariant-loop-i

@@ -1,12 +1,9 @@
 -- The invariant: the bytes before the index lie in range, and so do those from it on.
-use Prim.Native.Nat.{ℕ, ◌+◌, ◌-◌, ◌≤◌}
-use mathlib.Core.Path.{◌≡◌, sym, ap, ◌∙◌}
-use mathlib.Core.Bool.{Bool, ◌&&◌, and_assoc, and-true}
-use mathlib.Core.List.{List}
+use Prim.Native.Nat.{◌-◌, ◌≤◌}
+use mathlib.Core.Path.{◌≡◌}
+use mathlib.Core.Bool.{◌&&◌}
 use lib.ListN.{length, drop}
 use Rattle.stored.specs.Values.{in_range}
-use Rattle.stored.proofs.Lists.{left, none_left}
-use borrow.Author.Rules.{rules}
 use Rattle.stored.proofs.values.is_in_range.Given as goal
 
 abbrev pub invariant-loop-i : goal.invariant-loop-i

@@ -5,7 +5,6 @@ use native.Mathlib.Omega.{arith}
 use lib.ListN.{length}
 use borrow.Author.Tests.{lt-ltb, le-ltb}
 use Rattle.stored.specs.Writing.{record_of}
-use borrow.Author.Rules.{rules}
 use Rattle.stored.proofs.writer.place.Goals as goal
 
 pub returns-then-at-gt-MOST_BYTES : goal.returns-then-at-gt-MOST_BYTES

@@ -1,12 +1,8 @@
 -- The bytes before the index are laid down and the others are as they were: that is the invariant.
-use Prim.Native.Nat.{◌+◌, ◌-◌, ◌≤◌, ◌<◌}
-use mathlib.Core.Path.{◌≡◌, refl, ◌∙◌}
-use native.Mathlib.Numerals.{add-one}
-use native.Mathlib.Omega.{arith}
-use lib.ListN.{length, length-set}
-use lib.Seq.{paste, paste-zero, paste-suc}
-use borrow.Author.Rules.{rules}
-use Rattle.stored.proofs.Writing.{pasted}
+use Prim.Native.Nat.{◌-◌, ◌≤◌}
+use mathlib.Core.Path.{◌≡◌}
+use lib.ListN.{length}
+use lib.Seq.{paste}
 use Rattle.stored.proofs.writer.put.Given as goal
 
 abbrev pub invariant-loop-i : goal.invariant-loop-i

@@ -2,7 +2,6 @@
 use mathlib.Core.Path.{ap}
 use native.Mathlib.Numerals.{add-one}
 use Rattle.stored.specs.declared.operators.OperatorRow.{OperatorRow}
-use borrow.Author.Rules.{rules}
 use Rattle.stored.proofs.writer.put_record.Goals as goal
 
 pub put-requires : goal.put-requires

@@ -3,7 +3,6 @@ use native.Mathlib.Numerals.{add-one}
 use native.Mathlib.Omega.{arith}
 use mathlib.Core.Path.{◌∙◌}
 use lib.ListN.{length-set}
-use borrow.Author.Rules.{rules}
 use Rattle.stored.proofs.writer.put_value.Goals as goal
 
 pub put-requires : goal.put-requires

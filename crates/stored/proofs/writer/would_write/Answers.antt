@@ -1,7 +1,6 @@
 -- The state machine's answer decides.
 use mathlib.Core.Path.{sym, ◌∙◌}
 use Rattle.stored.specs.Writing.{would_write}
-use borrow.Author.Rules.{rules}
 use Rattle.stored.proofs.writer.would_write.Goals as goal
 
 pub returns-in-Next : goal.returns-in-Next

@@ -2,7 +2,6 @@
 use mathlib.Core.Path.{refl, sym, ◌∙◌}
 use Rattle.stored.specs.Writing.{writing}
 use Rattle.stored.proofs.Writing.{has-kind}
-use borrow.Author.Rules.{rules}
 use Rattle.stored.proofs.writer.write.Goals as goal
 
 pub place-requires : goal.place-requires
