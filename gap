@@ -93,7 +93,7 @@ build() { # PROGRAM
     touch "$built"
 }
 
-# Runs a program as the toolchain does: under its own loader and C library, and on a machine that is not x86-64 under its own emulator.
+# Runs a program as the toolchain does: under its own loader and C library, and on a machine that is not x86-64 under an emulator.
 run() { # PROGRAM
     local home tools loader emulator word
     command -v rt >/dev/null 2>&1 || [ -n "${RATTLE_HOME:-}" ] || fail "the Rattle toolchain is not installed: its command rt is not on the PATH"

@@ -2,7 +2,7 @@
 #
 # The installed compiler has no x86-64 standard library, but Debian's packages have one, together with the compiler it
 # belongs to. They are unpacked below target/ and not installed; the package lists are kept there too, so nothing of
-# the machine is changed. The toolchain that proves the library brings the linker, the C library and the emulator.
+# the machine is changed. The toolchain that proves the library brings the linker and the C library; the emulator is the one on the PATH.
 # shellcheck shell=bash
 
 triple=x86_64-unknown-linux-gnu
