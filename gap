@@ -87,8 +87,8 @@ build() { # PROGRAM
     [ -x "$here/target/bin/$1" ] && [ -e "$built" ] && [ -z "$(find "$here/crates" "$here/crates.txt" -name out -prune -o -type f -newer "$built" -print | head -n 1)" ] && return
     command -v rt >/dev/null 2>&1 || fail "the Rattle toolchain is not installed: its command rt is not on the PATH"
     mkdir -p "$here/target/bin" || fail "there is no folder $here/target/bin"
-    echo "gap: proving and building the program $1 (rt run $1); the first time this takes some minutes" >&2
-    (cd "$here" && { rt run "$1" </dev/null 2>&1 | tee "target/$1.log" | grep --line-buffered '^rt:' >&2; exit "${PIPESTATUS[0]}"; }) &&
+    echo "gap: proving and building the program $1 (rt run in crates/$1); the first time this takes some minutes" >&2
+    (cd "$here/crates/$1" && { rt run </dev/null 2>&1 | tee "$here/target/$1.log" | grep --line-buffered '^rt:' >&2; exit "${PIPESTATUS[0]}"; }) &&
         cp "$here/crates/$1/out/$1" "$here/target/bin/$1" || fail "the program $1 was not built; $here/target/$1.log says why"
     touch "$built"
 }

@@ -51,7 +51,7 @@ need_linker() {
 
 # make_library TREE: the static library of a checkout, proved and built, as TREE/target/staticlib/libportal.a.
 make_library() {
-    (cd "$1" && rt lib portal_c) || return 1
+    (cd "$1/crates/portal_c" && rt lib) || return 1
     mkdir -p "$1/target/staticlib" && cp "$1/crates/portal_c/out/libportal_c.a" "$1/target/staticlib/libportal.a"
 }
 
