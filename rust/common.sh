@@ -2,7 +2,7 @@
 #
 # Whoever reads this file has set `rust`, `root` and `machine`, and `asker`, the name that messages begin with.
 #
-#   STAMENHUM_LIB       the folder of a libportal.a that is there already; else `rt lib portal_c` makes one
+#   STAMENHUM_LIB       the folder of a libportal.a that is there already; else `rt lib` in crates/portal_c makes one
 # shellcheck shell=bash
 
 say() { echo "$asker: $*"; }
@@ -60,7 +60,7 @@ need_library() {
         STAMENHUM_LIB=$(cd "$STAMENHUM_LIB" && pwd -P) || fail "STAMENHUM_LIB is no folder"
     else
         command -v rt >/dev/null || fail "the Rattle toolchain's command rt is not on the PATH, and STAMENHUM_LIB is not set"
-        say "rt lib portal_c"
+        say "rt lib in crates/portal_c"
         make_library "$root" || fail "the library could not be made"
         STAMENHUM_LIB=$root/target/staticlib
     fi

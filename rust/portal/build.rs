@@ -1,5 +1,5 @@
 //! Tells the linker where the verified library stands: the folder STAMENHUM_LIB, or target/staticlib of the
-//! repository, where `rust/test` puts what `rt lib portal_c` makes.
+//! repository, where `rust/test` puts what `rt lib` in crates/portal_c makes.
 
 use std::env;
 use std::path::{Path, PathBuf};

@@ -1,5 +1,5 @@
 -- The lines that the gap program prints, each with its line feed (RULES 8).
-use Rattle.std.specs.Prelude.{ℕ, ◌/◌, ◌%◌, List, [], ◌∷◌, ◌++◌}
+use Rattle.std.specs.Prelude.{ℕ, ◌/◌, ◌%◌, List, [], ◌++◌}
 use Rattle.json_text.specs.Texts.{ascii}
 use Rattle.printing.specs.Decimals.{decimal_of}
 use Rattle.judging.specs.Requests.{Value, absent, text, number, column_of}

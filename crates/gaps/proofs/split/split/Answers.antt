@@ -1,0 +1,35 @@
+use Prim.Native.Nat.{◌-◌}
+use mathlib.Core.Path.{sym, ◌∙◌}
+use native.Mathlib.Omega.{arith}
+use lib.ListN.{length}
+use borrow.Author.Rules.{rules}
+use Rattle.gaps.proofs.Splitting.{goes-inside, ends-inside, goes, ends, at-end, begins}
+use Rattle.gaps.proofs.split.split.Goals as goal
+
+pub loop-at-init : goal.loop-at-init
+loop-at-init c = (search rules, sym (begins c.args.input.now))
+
+pub loop-at-smaller : goal.loop-at-smaller
+loop-at-smaller c =
+    let on = goes-inside c.args.input.now c.loop-at.at c.in-Goes.next c.loop-at-test.true (sym c.pass.ensures ∙ c.in-Goes.is) in
+    omega arith
+
+pub loop-at-preserved : goal.loop-at-preserved
+loop-at-preserved c =
+    let more = c.loop-at-test.true in
+    let passed = sym c.pass.ensures ∙ c.in-Goes.is in
+    let on = goes-inside c.args.input.now c.loop-at.at c.in-Goes.next more passed in (
+      on.1,
+      sym (goes c.args.input.now c.loop-at.at c.in-Goes.next more passed) ∙ c.loop-at.invariant.1,
+    )
+
+pub returns-in-Ends : goal.returns-in-Ends
+returns-in-Ends c =
+    let more = c.loop-at-test.true in
+    let passed = sym c.pass.ensures ∙ c.in-Ends.is in record { value = sym (ends c.args.input.now c.loop-at.at c.in-Ends.end more passed) ∙ c.loop-at.invariant.1; upper_bound = ends-inside c.args.input.now c.loop-at.at c.in-Ends.end more passed }
+
+pub returns : goal.returns
+returns c =
+    let t = c.args.input.now in
+    let at = c.loop-at.at in
+    record { value = sym (at-end (length t - at) t at c.loop-at-test.false) ∙ c.loop-at.invariant.1; upper_bound = search rules }
