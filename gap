@@ -84,7 +84,7 @@ note_first() { # FILE NAME
 # Proves and builds a program, unless that was done since its source last changed.
 build() { # PROGRAM
     local built=$here/target/$1-built
-    [ -x "$here/target/bin/$1" ] && [ -e "$built" ] && [ -z "$(find "$here/crates" "$here/crates.txt" -name out -prune -o -type f -newer "$built" -print | head -n 1)" ] && return
+    [ -x "$here/target/bin/$1" ] && [ -e "$built" ] && [ -z "$(find "$here/crates" "$here/crates.txt" -name out -prune -o \( -type f -o -path "$here/crates/*/*" \) -newer "$built" -print | head -n 1)" ] && return
     command -v rt >/dev/null 2>&1 || fail "the Rattle toolchain is not installed: its command rt is not on the PATH"
     mkdir -p "$here/target/bin" || fail "there is no folder $here/target/bin"
     echo "gap: proving and building the program $1 (rt run in crates/$1); the first time this takes some minutes" >&2
