@@ -15,6 +15,5 @@ pub mod Outcomes
 pub mod Means
 pub mod Requests
 pub mod SearchPromises
-pub mod some_answer
 pub mod SomeAnswer
 pub mod Promises

@@ -1,5 +1,11 @@
 -- The comparison leaves no input without an answer: each test of its definition is computed or decided, and where no refusal is given the
 -- first values of the columns make the gaps.
+pub mod Pairs
+pub mod AllStrings
+pub mod OneOfEach
+pub mod FewOrMany
+pub mod FirstValues
+pub mod EveryColumn
 use Prim.Native.Nat.{ℕ, ◌≤◌, ◌<◌}
 use mathlib.Core.Path.{◌≡◌, refl}
 use mathlib.Core.Bool.{Bool, true, false, ◌||◌}
@@ -27,8 +33,8 @@ use Rattle.comparing.specs.declared.answers.Showing.TheVariants as S
 use Rattle.comparing.proofs.kinds.Product.{product-gaps, counts-from}
 use Rattle.comparing.proofs.compare.Lowest.{none-wide}
 use Rattle.comparing.proofs.compare.NotWide.{narrow-codes}
-use Rattle.comparing.proofs.some_answer.FewOrMany.{few-else-many, crowded-or-few}
-use Rattle.comparing.proofs.some_answer.EveryColumn.{some-firsts}
+use Rattle.comparing.proofs.SomeAnswer.FewOrMany.{few-else-many, crowded-or-few}
+use Rattle.comparing.proofs.SomeAnswer.EveryColumn.{some-firsts}
 
 -- a choice by a test has an answer where either side has, under its outcome of the test
 pick_some : {R : Type 0} (P Q : R → Type 0) (t : Bool) → (t ≡ true → (r : R) × P r) → (t ≡ false → (r : R) × Q r)

@@ -2,14 +2,11 @@
 use Prim.Native.Nat.{ℕ, ◌+◌, ◌≤◌}
 use mathlib.Core.Path.{refl, ap}
 use mathlib.Core.Bool.{true, false}
-use mathlib.Core.List.{List, ◌++◌, map}
+use mathlib.Core.List.{◌++◌}
 use native.Mathlib.Omega.{arith}
 use lib.ListN.{length}
-use Rattle.stored.specs.Tables.{Statement}
 use Rattle.judging.specs.Judging.{rows_of}
-use Rattle.comparing.specs.Compared.{first_wide, product, most_kinds, IsAnswer, keeps}
-use Rattle.comparing.specs.Machinery.Kinds.{prints_in}
-use Rattle.comparing.specs.Machinery.Survey.{Listed}
+use Rattle.comparing.specs.Compared.{first_wide, IsAnswer, keeps}
 use Rattle.comparing.proofs.compare.NotWide.{not_wide}
 use Rattle.comparing.proofs.compare.Answering.{answer-wide, answer-crowded, answer-over, answer-yes, answer-none, answer-shown, survey-crowded, survey-listed, within-kinds, shows-gap}
 use Rattle.comparing.proofs.compare.find_read.Goals as goal
@@ -37,33 +34,23 @@ returns-then-found-2 c =
 
 pub count_gaps-requires : goal.count_gaps-requires
 count_gaps-requires c =
-    let one : List Statement =
-    rows_of c.args.first.now in
-    let two : List Statement =
-    rows_of c.args.second.now in
-    let words : List ℕ =
-    c.survey-found.new.words in
-    let bounds : List ℕ =
-    c.survey-found.result.bounds in
-    let listed : Listed one two words bounds false =
+    let one = rows_of c.args.first.now in
+    let two = rows_of c.args.second.now in
+    let words = c.survey-found.new.words in
+    let bounds = c.survey-found.result.bounds in
+    let listed =
     survey-listed one two words c.survey-found.result false c.if-found.false c.if-found-2.false c.survey-found.ensures in
-    let counts : product (map length (prints_in words bounds 0)) ≤ most_kinds =
-    within-kinds one two c.sides_of-sides.result c.sides_of-sides.ensures words bounds listed in
-    (listed.bounded refl, omega (arith, c.sides_of-sides.ensures.size, c.requires.0.few), counts)
+    (listed.bounded refl, omega (arith, c.sides_of-sides.ensures.size, c.requires.0.few), within-kinds one two c.sides_of-sides.result c.sides_of-sides.ensures words bounds listed)
 
 pub returns-then-count_gaps-k : goal.returns-then-count_gaps-k
 returns-then-count_gaps-k c =
-    let one : List Statement =
-    rows_of c.args.first.now in
-    let two : List Statement =
-    rows_of c.args.second.now in
-    let words : List ℕ =
-    c.survey-found.new.words in
-    let bounds : List ℕ =
-    c.survey-found.result.bounds in
+    let one = rows_of c.args.first.now in
+    let two = rows_of c.args.second.now in
+    let words = c.survey-found.new.words in
+    let bounds = c.survey-found.result.bounds in
     let narrow : 8 ≤ first_wide (one ++ two) =
     omega (arith, c.if-wide-lt-COLUMNS.false, c.first_wide-wide.ensures) in
-    let listed : Listed one two words bounds false =
+    let listed =
     survey-listed one two words c.survey-found.result false c.if-found.false c.if-found-2.false c.survey-found.ensures in
     let few : length one + length two ≤ 64 =
     omega (arith, c.requires.0.few, c.requires.0.more) in
@@ -73,33 +60,23 @@ returns-then-count_gaps-k c =
 
 pub gap_prints-prints-requires : goal.gap_prints-prints-requires
 gap_prints-prints-requires c =
-    let one : List Statement =
-    rows_of c.args.first.now in
-    let two : List Statement =
-    rows_of c.args.second.now in
-    let words : List ℕ =
-    c.survey-found.new.words in
-    let bounds : List ℕ =
-    c.survey-found.result.bounds in
-    let listed : Listed one two words bounds false =
+    let one = rows_of c.args.first.now in
+    let two = rows_of c.args.second.now in
+    let words = c.survey-found.new.words in
+    let bounds = c.survey-found.result.bounds in
+    let listed =
     survey-listed one two words c.survey-found.result false c.if-found.false c.if-found-2.false c.survey-found.ensures in
-    let counts : product (map length (prints_in words bounds 0)) ≤ most_kinds =
-    within-kinds one two c.sides_of-sides.result c.sides_of-sides.ensures words bounds listed in
-    (listed.bounded refl, omega (arith, c.sides_of-sides.ensures.size, c.requires.0.few), counts)
+    (listed.bounded refl, omega (arith, c.sides_of-sides.ensures.size, c.requires.0.few), within-kinds one two c.sides_of-sides.result c.sides_of-sides.ensures words bounds listed)
 
 pub show_gap-shape-requires : goal.show_gap-shape-requires
 show_gap-shape-requires c =
-    let one : List Statement =
-    rows_of c.args.first.now in
-    let two : List Statement =
-    rows_of c.args.second.now in
-    let words : List ℕ =
-    c.survey-found.new.words in
-    let bounds : List ℕ =
-    c.survey-found.result.bounds in
+    let one = rows_of c.args.first.now in
+    let two = rows_of c.args.second.now in
+    let words = c.survey-found.new.words in
+    let bounds = c.survey-found.result.bounds in
     let narrow : 8 ≤ first_wide (one ++ two) =
     omega (arith, c.if-wide-lt-COLUMNS.false, c.first_wide-wide.ensures) in
-    let listed : Listed one two words bounds false =
+    let listed =
     survey-listed one two words c.survey-found.result false c.if-found.false c.if-found-2.false c.survey-found.ensures in
     let few : length one + length two ≤ 64 =
     omega (arith, c.requires.0.few, c.requires.0.more) in
@@ -115,17 +92,13 @@ show_gap-shape-requires c =
 
 pub returns : goal.returns
 returns c =
-    let one : List Statement =
-    rows_of c.args.first.now in
-    let two : List Statement =
-    rows_of c.args.second.now in
-    let words : List ℕ =
-    c.survey-found.new.words in
-    let bounds : List ℕ =
-    c.survey-found.result.bounds in
+    let one = rows_of c.args.first.now in
+    let two = rows_of c.args.second.now in
+    let words = c.survey-found.new.words in
+    let bounds = c.survey-found.result.bounds in
     let narrow : 8 ≤ first_wide (one ++ two) =
     omega (arith, c.if-wide-lt-COLUMNS.false, c.first_wide-wide.ensures) in
-    let listed : Listed one two words bounds false =
+    let listed =
     survey-listed one two words c.survey-found.result false c.if-found.false c.if-found-2.false c.survey-found.ensures in
     let few : length one + length two ≤ 64 =
     omega (arith, c.requires.0.few, c.requires.0.more) in

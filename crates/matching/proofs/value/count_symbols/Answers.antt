@@ -1,5 +1,4 @@
-use Rattle.std.proofs.Common.{◌≡◌, ◌+◌, length, sym, ap, ◌∙◌, arith}
-use Rattle.matching.specs.Machinery.Cursor.{codes_left}
+use Rattle.std.proofs.Common.{length, sym, ap, ◌∙◌, arith}
 use Rattle.matching.proofs.Cursors.{next_more, next-done, left-fits}
 use Rattle.matching.proofs.value.count_symbols.Goals as goal
 
@@ -9,29 +8,20 @@ loop-behind-init c = omega arith
 pub overflow_add-count : goal.overflow_add-count
 overflow_add-count c = omega (
   arith,
-  (let known_found : length (codes_left c.args.table.now c.loop-behind.cursor) ≡ length (codes_left c.args.table.now c.in-Symbol.behind) + 1 = let t = c.args.table.now in
-      let l = c.loop-behind in
-      let split = ap length (next_more t l.cursor _ _ (sym c.next_symbol.ensures ∙ c.in-Symbol.is)) in
-      omega (arith, split) in known_found),
+  ap length (next_more c.args.table.now c.loop-behind.cursor _ _ (sym c.next_symbol.ensures ∙ c.in-Symbol.is)),
   left-fits c.args.table.now c.args.first,
 )
 
 pub loop-behind-smaller : goal.loop-behind-smaller
 loop-behind-smaller c = omega (
   arith,
-  (let known_found : length (codes_left c.args.table.now c.loop-behind.cursor) ≡ length (codes_left c.args.table.now c.in-Symbol.behind) + 1 = let t = c.args.table.now in
-      let l = c.loop-behind in
-      let split = ap length (next_more t l.cursor _ _ (sym c.next_symbol.ensures ∙ c.in-Symbol.is)) in
-      omega (arith, split) in known_found),
+  ap length (next_more c.args.table.now c.loop-behind.cursor _ _ (sym c.next_symbol.ensures ∙ c.in-Symbol.is)),
 )
 
 pub loop-behind-preserved : goal.loop-behind-preserved
 loop-behind-preserved c = omega (
   arith,
-  (let known_found : length (codes_left c.args.table.now c.loop-behind.cursor) ≡ length (codes_left c.args.table.now c.in-Symbol.behind) + 1 = let t = c.args.table.now in
-      let l = c.loop-behind in
-      let split = ap length (next_more t l.cursor _ _ (sym c.next_symbol.ensures ∙ c.in-Symbol.is)) in
-      omega (arith, split) in known_found),
+  ap length (next_more c.args.table.now c.loop-behind.cursor _ _ (sym c.next_symbol.ensures ∙ c.in-Symbol.is)),
 )
 
 pub returns-in-Done : goal.returns-in-Done

@@ -2,6 +2,7 @@ use Rattle.std.proofs.Common.{◌≡◌, ℕ, suc, ◌+◌, ◌-◌, ◌<◌, Bo
 use Rattle.matching.specs.Machinery.Codes.{takes_symbol}
 use Rattle.matching.specs.Machinery.Cursor.{next_of, left_matches}
 use Rattle.matching.specs.Matches.{is_empty}
+use Rattle.matching.specs.declared.symbols.Cursor.{Cursor}
 use Rattle.matching.specs.declared.symbols.Next.TheVariants as N
 use Rattle.matching.proofs.Cursors.{next_more}
 use Rattle.matching.proofs.SymbolsLeft.{left-short, left-takes, left-done}
@@ -14,11 +15,18 @@ ended s i = by (leb (length s) i) refl
     by true e = ap is_empty (sym (drop_of_length-le s (leb-true (length s) i e)))
     by false e = ap is_empty (sym (drop-cons s i 0 (leb-false (length s) i e)))
 
+-- what is left of the string, where the next symbol is no star: it takes the next byte or not
+asked : (t s : List ℕ) (cursor more : Cursor) (code i : ℕ) → next_of t cursor ≡ N.Symbol code more → (code ≡ 2 → ⊥) → i < length s
+    → (takes_symbol code (get_or s i 0) && left_matches t more (drop (i + 1) s)) ≡ left_matches t cursor (drop i s)
+asked t s cursor more code i next other inside =
+    ap (λ (n : ℕ). takes_symbol code (get_or s i 0) && left_matches t more (drop n s)) (add-one i)
+    ∙ sym (left-takes t cursor code more next other (get_or s i 0) (drop (suc i) s))
+    ∙ ap (left_matches t cursor) (sym (drop-cons s i 0 inside))
+
 pub star_matches-requires : goal.star_matches-requires
 star_matches-requires c = (
   c.loop-code.invariant.1,
-  (let known_next : next_of c.args.table.now c.loop-code.cursor
-      ≡ N.Symbol c.in-Symbol.code c.in-Symbol.behind = sym c.next_symbol.ensures ∙ c.in-Symbol.is in known_next) ∙ ap (λ (n : ℕ). N.Symbol n c.in-Symbol.behind) c.if-code-eq-BEHIND_STAR.true,
+  (sym c.next_symbol.ensures ∙ c.in-Symbol.is) ∙ ap (λ (n : ℕ). N.Symbol n c.in-Symbol.behind) c.if-code-eq-BEHIND_STAR.true,
 )
 
 pub returns-then-code-eq-BEHIND_STAR : goal.returns-then-code-eq-BEHIND_STAR
@@ -34,8 +42,7 @@ pub returns-then-string-i : goal.returns-then-string-i
 returns-then-string-i c =
     let l = c.loop-code in
     let a = c.args in
-    sym (left-short a.table.now l.cursor c.in-Symbol.code c.in-Symbol.behind ((let known_next : next_of c.args.table.now c.loop-code.cursor
-    ≡ N.Symbol c.in-Symbol.code c.in-Symbol.behind = sym c.next_symbol.ensures ∙ c.in-Symbol.is in known_next)) c.if-code-eq-BEHIND_STAR.false)
+    sym (left-short a.table.now l.cursor c.in-Symbol.code c.in-Symbol.behind (sym c.next_symbol.ensures ∙ c.in-Symbol.is) c.if-code-eq-BEHIND_STAR.false)
     ∙ ap (left_matches a.table.now l.cursor) (sym (drop_of_length-le a.string.now c.if-string-i.true))
     ∙ l.invariant.2
 
@@ -47,24 +54,11 @@ loop-code-preserved c =
       omega (arith, c.if-string-i.false),
       omega (
         arith,
-        ap length (next_more t l.cursor c.in-Symbol.code c.in-Symbol.behind ((let known_next : next_of c.args.table.now c.loop-code.cursor
-            ≡ N.Symbol c.in-Symbol.code c.in-Symbol.behind = sym c.next_symbol.ensures ∙ c.in-Symbol.is in known_next))),
+        ap length (next_more t l.cursor c.in-Symbol.code c.in-Symbol.behind (sym c.next_symbol.ensures ∙ c.in-Symbol.is)),
         l.invariant.1,
       ),
       ap (λ (taken : Bool). taken && left_matches t c.in-Symbol.behind (drop (l.i + 1) a.string.now)) (sym c.if-takes_symbol.true ∙ c.takes_symbol.ensures)
-          ∙ (let known_asked : (takes_symbol c.in-Symbol.code (get_or c.args.string.now c.loop-code.i 0)
-          && left_matches c.args.table.now c.in-Symbol.behind
-          (drop (c.loop-code.i + 1) c.args.string.now))
-          ≡ left_matches c.args.table.now c.args.first c.args.string.now = let l = c.loop-code in
-          let a = c.args in
-          let t = a.table.now in
-          let s = a.string.now in
-          let inside : l.i < length s = omega (arith, c.if-string-i.false) in
-          ap (λ (n : ℕ). takes_symbol c.in-Symbol.code (get_or s l.i 0) && left_matches t c.in-Symbol.behind (drop n s)) (add-one l.i)
-          ∙ sym (left-takes t l.cursor c.in-Symbol.code c.in-Symbol.behind ((let known_next : next_of c.args.table.now c.loop-code.cursor
-          ≡ N.Symbol c.in-Symbol.code c.in-Symbol.behind = sym c.next_symbol.ensures ∙ c.in-Symbol.is in known_next)) c.if-code-eq-BEHIND_STAR.false (get_or s l.i 0) (drop (suc l.i) s))
-          ∙ ap (left_matches t l.cursor) (sym (drop-cons s l.i 0 inside))
-          ∙ l.invariant.2 in known_asked),
+          ∙ asked a.table.now a.string.now l.cursor _ _ l.i (sym c.next_symbol.ensures ∙ c.in-Symbol.is) c.if-code-eq-BEHIND_STAR.false (omega (arith, c.if-string-i.false)) ∙ l.invariant.2,
     )
 
 pub returns-else-takes_symbol : goal.returns-else-takes_symbol
@@ -72,19 +66,7 @@ returns-else-takes_symbol c =
     let l = c.loop-code in
     let a = c.args in
     ap (λ (taken : Bool). taken && left_matches a.table.now c.in-Symbol.behind (drop (l.i + 1) a.string.now)) (sym c.if-takes_symbol.false ∙ c.takes_symbol.ensures)
-    ∙ (let known_asked : (takes_symbol c.in-Symbol.code (get_or c.args.string.now c.loop-code.i 0)
-    && left_matches c.args.table.now c.in-Symbol.behind
-    (drop (c.loop-code.i + 1) c.args.string.now))
-    ≡ left_matches c.args.table.now c.args.first c.args.string.now = let l = c.loop-code in
-    let a = c.args in
-    let t = a.table.now in
-    let s = a.string.now in
-    let inside : l.i < length s = omega (arith, c.if-string-i.false) in
-    ap (λ (n : ℕ). takes_symbol c.in-Symbol.code (get_or s l.i 0) && left_matches t c.in-Symbol.behind (drop n s)) (add-one l.i)
-    ∙ sym (left-takes t l.cursor c.in-Symbol.code c.in-Symbol.behind ((let known_next : next_of c.args.table.now c.loop-code.cursor
-    ≡ N.Symbol c.in-Symbol.code c.in-Symbol.behind = sym c.next_symbol.ensures ∙ c.in-Symbol.is in known_next)) c.if-code-eq-BEHIND_STAR.false (get_or s l.i 0) (drop (suc l.i) s))
-    ∙ ap (left_matches t l.cursor) (sym (drop-cons s l.i 0 inside))
-    ∙ l.invariant.2 in known_asked)
+    ∙ asked a.table.now a.string.now l.cursor _ _ l.i (sym c.next_symbol.ensures ∙ c.in-Symbol.is) c.if-code-eq-BEHIND_STAR.false (omega (arith, c.if-string-i.false)) ∙ l.invariant.2
 
 pub returns-in-Done : goal.returns-in-Done
 returns-in-Done c =

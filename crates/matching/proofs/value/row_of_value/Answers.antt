@@ -1,4 +1,4 @@
-use Rattle.std.proofs.Common.{◌≡◌, ℕ, false, List, ◌∷◌, length, replicate, sym, refl, ap, ◌∙◌, arith}
+use Rattle.std.proofs.Common.{ℕ, false, List, ◌∷◌, length, replicate, sym, refl, ap, ◌∙◌, arith}
 use Rattle.matching.specs.Machinery.Cursor.{codes_left}
 use Rattle.matching.specs.Machinery.Rows.{row_bit}
 use Rattle.matching.proofs.Cursors.{next_more, next-done}
@@ -18,36 +18,28 @@ loop-code-init c =
 pub bounds-row-i : goal.bounds-row-i
 bounds-row-i c = omega (
   arith,
-  ap length ((let known_found : codes_left c.args.table.now c.loop-code.cursor ≡ c.in-Symbol.code ∷ codes_left c.args.table.now c.in-Symbol.behind = let t = c.args.table.now in
-      let l = c.loop-code in
-      next_more t l.cursor _ _ (sym c.next_symbol.ensures ∙ c.in-Symbol.is) in known_found)),
+  ap length (next_more c.args.table.now c.loop-code.cursor _ _ (sym c.next_symbol.ensures ∙ c.in-Symbol.is)),
   c.loop-code.invariant.0,
 )
 
 pub mark_in-requires : goal.mark_in-requires
 mark_in-requires c = omega (
   arith,
-  ap length ((let known_found : codes_left c.args.table.now c.loop-code.cursor ≡ c.in-Symbol.code ∷ codes_left c.args.table.now c.in-Symbol.behind = let t = c.args.table.now in
-      let l = c.loop-code in
-      next_more t l.cursor _ _ (sym c.next_symbol.ensures ∙ c.in-Symbol.is) in known_found)),
+  ap length (next_more c.args.table.now c.loop-code.cursor _ _ (sym c.next_symbol.ensures ∙ c.in-Symbol.is)),
   c.loop-code.invariant.0,
 )
 
 pub overflow_add-p : goal.overflow_add-p
 overflow_add-p c = omega (
   arith,
-  ap length ((let known_found : codes_left c.args.table.now c.loop-code.cursor ≡ c.in-Symbol.code ∷ codes_left c.args.table.now c.in-Symbol.behind = let t = c.args.table.now in
-      let l = c.loop-code in
-      next_more t l.cursor _ _ (sym c.next_symbol.ensures ∙ c.in-Symbol.is) in known_found)),
+  ap length (next_more c.args.table.now c.loop-code.cursor _ _ (sym c.next_symbol.ensures ∙ c.in-Symbol.is)),
   c.loop-code.invariant.0,
 )
 
 pub loop-code-smaller : goal.loop-code-smaller
 loop-code-smaller c = omega (
   arith,
-  ap length ((let known_found : codes_left c.args.table.now c.loop-code.cursor ≡ c.in-Symbol.code ∷ codes_left c.args.table.now c.in-Symbol.behind = let t = c.args.table.now in
-      let l = c.loop-code in
-      next_more t l.cursor _ _ (sym c.next_symbol.ensures ∙ c.in-Symbol.is) in known_found)),
+  ap length (next_more c.args.table.now c.loop-code.cursor _ _ (sym c.next_symbol.ensures ∙ c.in-Symbol.is)),
 )
 
 pub loop-code-preserved : goal.loop-code-preserved
@@ -56,9 +48,7 @@ loop-code-preserved c =
     let l = c.loop-code in
     let a = c.args in
     let t = a.table.now in
-    let split = (let known_found : codes_left c.args.table.now c.loop-code.cursor ≡ c.in-Symbol.code ∷ codes_left c.args.table.now c.in-Symbol.behind = let t = c.args.table.now in
-    let l = c.loop-code in
-    next_more t l.cursor _ _ (sym c.next_symbol.ensures ∙ c.in-Symbol.is) in known_found) in (
+    let split = next_more c.args.table.now c.loop-code.cursor _ _ (sym c.next_symbol.ensures ∙ c.in-Symbol.is) in (
       omega (arith, ap length split, l.invariant.0),
       sweep-next a.begins a.b (row_bit a.row) (codes_left t l.cursor) c.in-Symbol.code (codes_left t c.in-Symbol.behind) l.next l.p l.new l.before
           c.mark_in.new.row c.cell_step-reached.result (row_bit a.row l.p) split

@@ -4,6 +4,7 @@ use mathlib.Core.List.{List}
 use mathlib.Core.Logic.{inl, inr}
 use native.Mathlib.Omega.{arith}
 use lib.ListN.{length, take, drop}
+use lib.Seq.{sets}
 use Rattle.matching.specs.Machinery.Rows.{first_row}
 use Rattle.states.specs.Machinery.Rows.{codes_at, codes_laid, row_at}
 use Rattle.states.specs.Machinery.Search.{Partial, Untouched}
@@ -12,39 +13,42 @@ use Rattle.states.proofs.Stepping.{search-begins, search-goes-on, search-ends, f
 use Rattle.states.proofs.TakenRows.{searchable-stays}
 use Rattle.states.proofs.explore.explore.Goals as goal
 
+-- the first row is that of the codes laid down
+first_laid : (words : List ℕ) (positions : ℕ) → {row : List ℕ} → row ≡ first_row (take (codes_at + positions - codes_at) (drop codes_at words))
+    → row ≡ first_row (codes_laid positions words)
+first_laid words positions e =
+    e ∙ ap (λ (k : ℕ). first_row (take k (drop codes_at words))) {x = codes_at + positions - codes_at} {y = positions} (omega arith)
+
+eight_words : (words : List ℕ) (positions : ℕ) → {row : List ℕ} → row ≡ first_row (codes_laid positions words) → length row ≡ 8
+eight_words words positions e = ap length e ∙ first-length (codes_laid positions words)
+
+-- to lay it down changes no code, and nothing else that counts
+codes_stay : (words : List ℕ) (positions : ℕ) (laid : List ℕ) → {row : List ℕ} → row ≡ first_row (codes_laid positions words)
+    → laid ≡ sets words (0 * 8) row → drop codes_at laid ≡ drop codes_at words
+codes_stay words positions laid {row = row} e put =
+    ap (drop codes_at) put ∙ behind-kept words 0 codes_at row (eight_words words positions e) (omega arith)
+
+rest_untouched : (words : List ℕ) (positions : ℕ) (laid : List ℕ) → {row : List ℕ} → row ≡ first_row (codes_laid positions words)
+    → laid ≡ sets words (0 * 8) row → Untouched words laid 1
+rest_untouched words positions laid {row = row} e put =
+    subst (λ (l : List ℕ). Untouched words l 1) (sym put) (untouched-first words row (eight_words words positions e))
+
 pub loop-row-init : goal.loop-row-init
-loop-row-init c = let words : List ℕ =
-    c.args.words.now in
-    let positions : ℕ =
-    c.args.positions in
-    let first-codes : c.first_state-first.result ≡ first_row (codes_laid positions words) =
-    c.first_state-first.ensures
-    ∙ ap (λ (k : ℕ). first_row (take k (drop codes_at words))) {x = codes_at + positions - codes_at} {y = positions} (omega arith) in
-    let eight : length c.first_state-first.result ≡ 8 =
-    ap length first-codes ∙ first-length (codes_laid positions words) in
-    let stay : drop codes_at c.put_row.new.words ≡ drop codes_at words =
-    ap (drop codes_at) c.put_row.ensures ∙ behind-kept words 0 codes_at c.first_state-first.result eight (omega arith) in
-    let begun : Partial (codes_laid positions c.put_row.new.words) c.put_row.new.words 1 0 =
-    search-begins (codes_laid positions c.put_row.new.words) c.put_row.new.words
+loop-row-init c =
+    let first = first_laid c.args.words.now c.args.positions c.first_state-first.ensures in
+    let stay = codes_stay c.args.words.now c.args.positions c.put_row.new.words first c.put_row.ensures in
+    let begun =
+    search-begins (codes_laid c.args.positions c.put_row.new.words) c.put_row.new.words
     (ap (λ (l : List ℕ). row_at l 0) c.put_row.ensures
-    ∙ row_laid words 0 c.first_state-first.result eight (omega (arith, c.requires.room))
-    ∙ first-codes
-    ∙ ap (λ (l : List ℕ). first_row (take positions l)) (sym stay)) in
+    ∙ row_laid c.args.words.now 0 c.first_state-first.result (eight_words c.args.words.now c.args.positions first) (omega (arith, c.requires.room))
+    ∙ first
+    ∙ ap (λ (l : List ℕ). first_row (take c.args.positions l)) (sym stay)) in
     (omega arith, refl, refl, begun, untouched-same c.put_row.new.words 1)
 
 pub try_bytes-found-requires : goal.try_bytes-found-requires
 try_bytes-found-requires c =
-    let words : List ℕ =
-    c.args.words.now in
-    let positions : ℕ =
-    c.args.positions in
-    let first-codes : c.first_state-first.result ≡ first_row (codes_laid positions words) =
-    c.first_state-first.ensures
-    ∙ ap (λ (k : ℕ). first_row (take k (drop codes_at words))) {x = codes_at + positions - codes_at} {y = positions} (omega arith) in
-    let eight : length c.first_state-first.result ≡ 8 =
-    ap length first-codes ∙ first-length (codes_laid positions words) in
-    let stay : drop codes_at c.put_row.new.words ≡ drop codes_at words =
-    ap (drop codes_at) c.put_row.ensures ∙ behind-kept words 0 codes_at c.first_state-first.result eight (omega arith) in
+    let first = first_laid c.args.words.now c.args.positions c.first_state-first.ensures in
+    let stay = codes_stay c.args.words.now c.args.positions c.put_row.new.words first c.put_row.ensures in
     let l = c.loop-row in
     let a = c.args in (
       searchable-stays a.words.now l.words (l.invariant.2 ∙ stay) a.positions
@@ -58,19 +62,9 @@ shape_of-words-then-found-gt-MOST_STATES c = c.try_bytes-found.auto.words ∙ c.
 
 pub returns-then-found-gt-MOST_STATES : goal.returns-then-found-gt-MOST_STATES
 returns-then-found-gt-MOST_STATES c =
-    let words : List ℕ =
-    c.args.words.now in
-    let positions : ℕ =
-    c.args.positions in
-    let first-codes : c.first_state-first.result ≡ first_row (codes_laid positions words) =
-    c.first_state-first.ensures
-    ∙ ap (λ (k : ℕ). first_row (take k (drop codes_at words))) {x = codes_at + positions - codes_at} {y = positions} (omega arith) in
-    let eight : length c.first_state-first.result ≡ 8 =
-    ap length first-codes ∙ first-length (codes_laid positions words) in
-    let stay : drop codes_at c.put_row.new.words ≡ drop codes_at words =
-    ap (drop codes_at) c.put_row.ensures ∙ behind-kept words 0 codes_at c.first_state-first.result eight (omega arith) in
-    let untouched : Untouched words c.put_row.new.words 1 =
-    subst (λ (l : List ℕ). Untouched words l 1) (sym c.put_row.ensures) (untouched-first words c.first_state-first.result eight) in
+    let first = first_laid c.args.words.now c.args.positions c.first_state-first.ensures in
+    let stay = codes_stay c.args.words.now c.args.positions c.put_row.new.words first c.put_row.ensures in
+    let untouched = rest_untouched c.args.words.now c.args.positions c.put_row.new.words first c.put_row.ensures in
     let l = c.loop-row in
     let a = c.args in
     let laid = c.put_row.new.words in
@@ -103,19 +97,9 @@ shape_of-words c = c.loop-row.invariant.1 ∙ c.put_row.auto.words
 
 pub returns : goal.returns
 returns c =
-    let words : List ℕ =
-    c.args.words.now in
-    let positions : ℕ =
-    c.args.positions in
-    let first-codes : c.first_state-first.result ≡ first_row (codes_laid positions words) =
-    c.first_state-first.ensures
-    ∙ ap (λ (k : ℕ). first_row (take k (drop codes_at words))) {x = codes_at + positions - codes_at} {y = positions} (omega arith) in
-    let eight : length c.first_state-first.result ≡ 8 =
-    ap length first-codes ∙ first-length (codes_laid positions words) in
-    let stay : drop codes_at c.put_row.new.words ≡ drop codes_at words =
-    ap (drop codes_at) c.put_row.ensures ∙ behind-kept words 0 codes_at c.first_state-first.result eight (omega arith) in
-    let untouched : Untouched words c.put_row.new.words 1 =
-    subst (λ (l : List ℕ). Untouched words l 1) (sym c.put_row.ensures) (untouched-first words c.first_state-first.result eight) in
+    let first = first_laid c.args.words.now c.args.positions c.first_state-first.ensures in
+    let stay = codes_stay c.args.words.now c.args.positions c.put_row.new.words first c.put_row.ensures in
+    let untouched = rest_untouched c.args.words.now c.args.positions c.put_row.new.words first c.put_row.ensures in
     let l = c.loop-row in
     let a = c.args in
     let all : l.row ≡ l.n = omega arith in

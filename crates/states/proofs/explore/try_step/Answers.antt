@@ -7,26 +7,30 @@ use native.Mathlib.Numerals.{add-one}
 use native.Mathlib.Omega.{arith}
 use lib.ListN.{length, take, drop, set}
 use Rattle.matching.specs.Machinery.Words.{words_row}
-use Rattle.states.specs.Machinery.Rows.{most_states, keys_at, codes_at, codes_laid, row_at, stars_laid}
-use Rattle.states.specs.Machinery.Search.{step_from, Partial, Untouched}
+use Rattle.states.specs.Machinery.Rows.{IsByte, most_states, keys_at, codes_at, codes_laid, row_at, stars_laid}
+use Rattle.states.specs.Machinery.Search.{step_from, Searchable, Partial, Untouched}
 use Rattle.states.proofs.RowsInWords.{with_row, with-other-row, with-kept, with-untouched, untouched-same}
 use Rattle.states.proofs.Stepping.{step-known, step-over, step-new, step-length}
 use Rattle.states.proofs.TakenRows.{step-leads}
 use Rattle.states.proofs.explore.try_step.Goals as goal
+
+-- the row that the code works out is the one to which the step leads
+leads : (words : List ℕ) (positions i b : ℕ) → Searchable positions words → IsByte b → (from : List ℕ) → from ≡ row_at words i → {row : List ℕ}
+    → row ≡ words_row ((positions + 63) / 64) (take ((607 + b) * 8 + 8 - (607 + b) * 8) (drop ((607 + b) * 8) words)) (stars_laid words) from
+    → row ≡ step_from (codes_laid positions words) words i b
+leads words positions i b searchable byte from same e =
+    let at = (607 + b) * 8 in
+    e
+    ∙ ap₂ (λ (n : ℕ) (row : List ℕ). words_row ((positions + 63) / 64) (take n (drop at words)) (stars_laid words) row)
+    {x = at + 8 - at} {y = 8} (omega arith) same
+    ∙ step-leads positions words searchable i b byte
 
 pub returns-then-at-n : goal.returns-then-at-n
 returns-then-at-n c =
     let a = c.args in
     let words = a.words.now in
     let codes = codes_laid a.positions words in
-    let row = (let known_leads : c.step_words-row.result
-    ≡ step_from (codes_laid c.args.positions c.args.words.now) c.args.words.now c.args.i c.args.b = let a = c.args in
-    let words = a.words.now in
-    let at = (607 + a.b) * 8 in
-    c.step_words-row.ensures
-    ∙ ap₂ (λ (n : ℕ) (row : List ℕ). words_row ((a.positions + 63) / 64) (take n (drop at words)) (stars_laid words) row)
-    {x = at + 8 - at} {y = 8} (omega arith) c.requires.3
-    ∙ step-leads a.positions words c.requires.0 a.i a.b c.requires.2 in known_leads) in
+    let row = leads words a.positions a.i a.b c.requires.0 c.requires.2 c.args.from c.requires.3 c.step_words-row.ensures in
     let found = c.find_row-at.ensures in record {
       searched = record {
         kept = refl;
@@ -42,14 +46,7 @@ returns-then-n-ge-MOST_STATES c =
     let a = c.args in
     let words = a.words.now in
     let codes = codes_laid a.positions words in
-    let row = (let known_leads : c.step_words-row.result
-    ≡ step_from (codes_laid c.args.positions c.args.words.now) c.args.words.now c.args.i c.args.b = let a = c.args in
-    let words = a.words.now in
-    let at = (607 + a.b) * 8 in
-    c.step_words-row.ensures
-    ∙ ap₂ (λ (n : ℕ) (row : List ℕ). words_row ((a.positions + 63) / 64) (take n (drop at words)) (stars_laid words) row)
-    {x = at + 8 - at} {y = 8} (omega arith) c.requires.3
-    ∙ step-leads a.positions words c.requires.0 a.i a.b c.requires.2 in known_leads) in
+    let row = leads words a.positions a.i a.b c.requires.0 c.requires.2 c.args.from c.requires.3 c.step_words-row.ensures in
     let found = c.find_row-at.ensures in record {
       searched = record {
         kept = refl;
@@ -65,14 +62,7 @@ returns c =
     let a = c.args in
     let words = a.words.now in
     let codes = codes_laid a.positions words in
-    let row = (let known_leads : c.step_words-row.result
-    ≡ step_from (codes_laid c.args.positions c.args.words.now) c.args.words.now c.args.i c.args.b = let a = c.args in
-    let words = a.words.now in
-    let at = (607 + a.b) * 8 in
-    c.step_words-row.ensures
-    ∙ ap₂ (λ (n : ℕ) (row : List ℕ). words_row ((a.positions + 63) / 64) (take n (drop at words)) (stars_laid words) row)
-    {x = at + 8 - at} {y = 8} (omega arith) c.requires.3
-    ∙ step-leads a.positions words c.requires.0 a.i a.b c.requires.2 in known_leads) in
+    let row = leads words a.positions a.i a.b c.requires.0 c.requires.2 c.args.from c.requires.3 c.step_words-row.ensures in
     let found = c.find_row-at.ensures in
     let result = c.step_words-row.result in
     let eight : length result ≡ 8 = ap length row ∙ step-length codes a.b (row_at words a.i) in

@@ -1,6 +1,6 @@
-use Prim.Native.Nat.{ℕ, suc, ◌+◌, ◌-◌, ◌/◌, ◌%◌, ◌<◌}
+use Prim.Native.Nat.{ℕ, suc, ◌+◌, ◌-◌, ◌/◌, ◌%◌}
 use mathlib.Core.Path.{◌≡◌, refl, sym, ap, ◌∙◌}
-use mathlib.Core.List.{List, ◌∷◌}
+use mathlib.Core.List.{List}
 use native.Mathlib.Omega.{arith}
 use lib.ListN.{length, set, length-set}
 use lib.Seq.{sets}
@@ -16,74 +16,51 @@ loop-row-init c =
     (c.requires.0.low, c.string_length-size.ensures ∙ length-forward (chain a.i a.words.now a.i), refl, refl)
 
 pub overflow_sub-left : goal.overflow_sub-left
-overflow_sub-left c = let words : List ℕ =
-    c.args.words.now in
-    let row : ℕ =
-    c.loop-row.row in
-    let older : ℕ =
-    key_at words row / 128 in
-    let one_more : chain row words row ≡ key_at words row % 128 ∷ chain older words older =
-    chain-parent words c.args.n c.requires.0.keyed row c.loop-row-test.true c.loop-row.invariant.0 in
-    let left-more : c.loop-row.left ≡ suc (length (chain older words older)) =
-    c.loop-row.invariant.1 ∙ ap length one_more in
-    omega (arith, left-more)
+overflow_sub-left c = omega (
+  arith,
+  c.loop-row.invariant.1
+      ∙ ap length (chain-parent c.args.words.now c.args.n c.requires.0.keyed c.loop-row.row c.loop-row-test.true c.loop-row.invariant.0),
+)
 
 pub overflow_add-values : goal.overflow_add-values
-overflow_add-values c = let words : List ℕ =
-    c.args.words.now in
-    let row : ℕ =
-    c.loop-row.row in
-    omega (arith, c.loop-row.invariant.1, chain-short words row row, c.requires.1, c.requires.0.few)
+overflow_add-values c = omega (
+  arith,
+  c.loop-row.invariant.1,
+  chain-short c.args.words.now c.loop-row.row c.loop-row.row,
+  c.requires.1,
+  c.requires.0.few,
+)
 
 pub bounds-values-at : goal.bounds-values-at
-bounds-values-at c = let words : List ℕ =
-    c.args.words.now in
-    let row : ℕ =
-    c.loop-row.row in
-    let older : ℕ =
-    key_at words row / 128 in
-    let one_more : chain row words row ≡ key_at words row % 128 ∷ chain older words older =
-    chain-parent words c.args.n c.requires.0.keyed row c.loop-row-test.true c.loop-row.invariant.0 in
-    let left-more : c.loop-row.left ≡ suc (length (chain older words older)) =
-    c.loop-row.invariant.1 ∙ ap length one_more in
-    omega (arith, c.loop-row.invariant.1, left-more, chain-short words row row, c.requires.1, c.requires.0.few)
+bounds-values-at c = omega (
+  arith,
+  c.loop-row.invariant.1,
+  ap length (chain-parent c.args.words.now c.args.n c.requires.0.keyed c.loop-row.row c.loop-row-test.true c.loop-row.invariant.0),
+  chain-short c.args.words.now c.loop-row.row c.loop-row.row,
+  c.requires.1,
+  c.requires.0.few,
+)
 
 pub loop-row-smaller : goal.loop-row-smaller
-loop-row-smaller c = let words : List ℕ =
-    c.args.words.now in
-    let row : ℕ =
-    c.loop-row.row in
-    let older : ℕ =
-    key_at words row / 128 in
-    let is-older : older < row =
-    c.requires.0.keyed.parent row c.loop-row-test.true c.loop-row.invariant.0 in
-    is-older
+loop-row-smaller c = c.requires.0.keyed.parent c.loop-row.row c.loop-row-test.true c.loop-row.invariant.0
 
 pub loop-row-preserved : goal.loop-row-preserved
 loop-row-preserved c =
-    let words : List ℕ =
-    c.args.words.now in
-    let row : ℕ =
-    c.loop-row.row in
-    let older : ℕ =
-    key_at words row / 128 in
-    let is-older : older < row =
-    c.requires.0.keyed.parent row c.loop-row-test.true c.loop-row.invariant.0 in
-    let one_more : chain row words row ≡ key_at words row % 128 ∷ chain older words older =
-    chain-parent words c.args.n c.requires.0.keyed row c.loop-row-test.true c.loop-row.invariant.0 in
-    let left-more : c.loop-row.left ≡ suc (length (chain older words older)) =
-    c.loop-row.invariant.1 ∙ ap length one_more in
     let l = c.loop-row in
     let a = c.args in
+    let words = a.words.now in
+    let older = key_at words l.row / 128 in
+    let more = chain-parent words a.n c.requires.0.keyed l.row c.loop-row-test.true l.invariant.0 in
+    let left-more : l.left ≡ suc (length (chain older words older)) = l.invariant.1 ∙ ap length more in
     let bytes = chain older words older in
     let last = key_at words l.row % 128 in
     let place : l.left - 1 ≡ length (forward bytes) = omega (arith, left-more, length-forward bytes) in (
-      omega (arith, is-older),
+      omega (arith, c.requires.0.keyed.parent l.row c.loop-row-test.true l.invariant.0),
       omega (arith, left-more),
       simp length-set l.invariant.2,
       ap (λ (k : ℕ). sets (set l.values (a.at + k) last) a.at (forward bytes)) place
           ∙ sym (sets_last l.values a.at (forward bytes) last)
-          ∙ ap (λ (r : List ℕ). sets l.values a.at (forward r)) (sym one_more)
+          ∙ ap (λ (r : List ℕ). sets l.values a.at (forward r)) (sym more)
           ∙ l.invariant.3,
     )
 

@@ -27,9 +27,9 @@ use Rattle.comparing.proofs.Members.{in-mapped, mapped_in, ascending-mapped}
 use Rattle.comparing.proofs.Ranks.{ranged, in-range, ranged-append, ranged-forward, ranged-backward}
 use Rattle.comparing.proofs.Deciding.{state-decides}
 use Rattle.comparing.proofs.survey.Admitting.{needed, is-needed, optional, is-optional}
-use Rattle.comparing.proofs.some_answer.AllStrings.{numbers, in-numbers, numbers-in, numbers-ascending, Sooner, all_strings, in-all-strings, all-strings-in, all-strings-ascending}
-use Rattle.comparing.proofs.some_answer.FewOrMany.{with_byte, state-behind}
-use Rattle.comparing.proofs.some_answer.FirstValues.{Shorter, AllShorter, firsts-short}
+use Rattle.comparing.proofs.SomeAnswer.AllStrings.{numbers, in-numbers, numbers-in, numbers-ascending, Sooner, all_strings, in-all-strings, all-strings-in, all-strings-ascending}
+use Rattle.comparing.proofs.SomeAnswer.FewOrMany.{with_byte, state-behind}
+use Rattle.comparing.proofs.SomeAnswer.FirstValues.{Shorter, AllShorter, firsts-short}
 
 -- absence in front of strings or numbers
 absent-first : {A : Type 0} (make : A → Value) (list : List A) → ((x : A) → Before absent (make x)) → Ascending (λ x y. Before (make x) (make y)) list

@@ -13,7 +13,7 @@ use Rattle.states.specs.Machinery.Rows.{IsByte}
 use Rattle.comparing.specs.Order.{Before, In, Ascending}
 use Rattle.comparing.proofs.Members.{in-joined, in_left, in_right, ascending-joined}
 use Rattle.comparing.proofs.Ranks.{Ranged}
-use Rattle.comparing.proofs.some_answer.Pairs.{pairs, in_pairs, pairs-in, pairs-ascending}
+use Rattle.comparing.proofs.SomeAnswer.Pairs.{pairs, in_pairs, pairs-in, pairs-ascending}
 
 -- n numbers from a on, what is among them, and their order
 pub numbers : ℕ → ℕ → List ℕ

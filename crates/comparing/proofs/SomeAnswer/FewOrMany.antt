@@ -24,9 +24,9 @@ use Rattle.comparing.specs.Columns.{IsString, States, Few, TooMany}
 use Rattle.comparing.specs.Compared.{Crowded}
 use Rattle.comparing.proofs.Ranks.{Ranged, ranged, in-range, ranged-append, ranged-backward}
 use Rattle.comparing.proofs.SameBehind.{state-more}
-use Rattle.comparing.proofs.some_answer.Pairs.{pairs, in_pairs, pairs-in}
-use Rattle.comparing.proofs.some_answer.AllStrings.{all_bytes, all-bytes-in, in-all-bytes}
-use Rattle.comparing.proofs.some_answer.OneOfEach.{Like, New, like-or-new}
+use Rattle.comparing.proofs.SomeAnswer.Pairs.{pairs, in_pairs, pairs-in}
+use Rattle.comparing.proofs.SomeAnswer.AllStrings.{all_bytes, all-bytes-in, in-all-bytes}
+use Rattle.comparing.proofs.SomeAnswer.OneOfEach.{Like, New, like-or-new}
 
 -- a byte behind a string
 abbrev pub with_byte : ℕ → List ℕ → List ℕ

@@ -16,7 +16,7 @@ use Rattle.comparing.specs.Requests.{Admitted, AdmitsNeeded, AdmitsOptional, Adm
 use Rattle.comparing.specs.Gaps.{footprint, Alike}
 use Rattle.comparing.specs.Machinery.Product.{Firsts}
 use Rattle.comparing.proofs.Order.{before-asym}
-use Rattle.comparing.proofs.some_answer.OneOfEach.{Like, one_of_each, each_in, each_like, each-ascending, each_first}
+use Rattle.comparing.proofs.SomeAnswer.OneOfEach.{Like, one_of_each, each_in, each_like, each-ascending, each_first}
 
 -- a value has fewer than n bytes
 abbrev pub Shorter : ℕ → Value → Type 0
