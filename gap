@@ -81,10 +81,16 @@ note_first() { # FILE NAME
         }' || echo "gap: note: $2 does not end with its first record 05, so the first table that the program sees is not just this file" >&2
 }
 
+# Prints a file or folder of the sources that is newer than a file, if there is one. What the toolchain makes in out/ is no source, and a
+# crate's own folder is changed by that.
+changed_since() { # FILE
+    (cd "$here" && find crates crates.txt -name out -prune -o \( -type f -o -path 'crates/*/*' \) -newer "$1" -print | head -n 1)
+}
+
 # Proves and builds a program, unless that was done since its source last changed.
 build() { # PROGRAM
     local built=$here/target/$1-built
-    [ -x "$here/target/bin/$1" ] && [ -e "$built" ] && [ -z "$(find "$here/crates" "$here/crates.txt" -name out -prune -o \( -type f -o -path "$here/crates/*/*" \) -newer "$built" -print | head -n 1)" ] && return
+    [ -x "$here/target/bin/$1" ] && [ -e "$built" ] && [ -z "$(changed_since "$built")" ] && return
     command -v rt >/dev/null 2>&1 || fail "the Rattle toolchain is not installed: its command rt is not on the PATH"
     mkdir -p "$here/target/bin" || fail "there is no folder $here/target/bin"
     echo "gap: proving and building the program $1 (rt run in crates/$1); the first time this takes some minutes" >&2
