@@ -1,7 +1,8 @@
 -- A search has one outcome. Row by row, two searches by the same codes have found the same row by the same step, since a step that one of
 -- them has found a row by was tried by the other too, or comes later than those it was found by; and neither can stop before the other.
-use Prim.Native.Nat.{ℕ, zero, suc, ◌+◌, ◌-◌, ◌*◌, ◌/◌, ◌%◌, ◌≤◌, ◌<◌, min}
-use mathlib.Core.Path.{◌≡◌, sym, ◌∙◌, ap, subst}
+use Prim.Native.Nat.{ℕ, zero, suc, ◌+◌, ◌-◌, ◌*◌, ◌/◌, ◌%◌, ◌≤◌, ◌<◌}
+use mathlib.Core.Path.{◌≡◌, refl, sym, ◌∙◌, ap, subst}
+use Rattle.std.specs.Prelude.{Option, None, Some}
 use mathlib.Core.List.{List}
 use mathlib.Core.Logic.{◌⊎◌, inl, inr}
 use native.Mathlib.Omega.{arith}
@@ -9,7 +10,7 @@ use lib.ListN.{length, get_or}
 use lib.Seq.{get_or-drop, ext_get_or}
 use Rattle.matching.specs.Machinery.Rows.{step_row}
 use Rattle.states.specs.Machinery.Rows.{most_states, keys_at, codes_at, row_at, key_at, IsByte}
-use Rattle.states.specs.Machinery.Search.{step_from, Partial, Explored, Exceeded, Explores}
+use Rattle.states.specs.Machinery.Search.{step_from, rows_laid, Partial, Explored, Exceeded, FoundAll, Explores}
 use Rattle.states.proofs.Below.{below-or-from, below_next}
 use Rattle.states.proofs.RowsInWords.{row_word}
 
@@ -118,39 +119,35 @@ not-exceeded codes a b n few e x = by (below-or-from n most_states)
         let k = leads-there codes a b n most_states x.rest e x.full (omega arith) x.row x.by (omega arith) x.byte in
         x.new k.0 (omega (arith, k.1)) k.2
 
-abbrev Found : List ℕ → List ℕ → ℕ → Type 0
-Found codes words r = ((r ≤ most_states) × Explored codes words r) ⊎ ((r ≡ suc most_states) × Exceeded codes words)
-
 -- the answers are the same
-same_answer : (codes a b : List ℕ) (r s : ℕ) → Found codes a r → Found codes b s → r ≡ s
-same_answer codes a b r s (inl (few, e)) (inl (small, f)) = by (below-or-from r s) (below-or-from s r)
+same_answer : (codes a b : List ℕ) (r s : Option ℕ) → FoundAll codes a r → FoundAll codes b s → r ≡ s
+same_answer codes a b (Some r) (Some s) e f = by (below-or-from r s) (below-or-from s r)
   where
-    by : (r < s) ⊎ (s ≤ r) → (s < r) ⊎ (r ≤ s) → r ≡ s
+    by : (r < s) ⊎ (s ≤ r) → (s < r) ⊎ (r ≤ s) → Some r ≡ Some s
     by (inl less) other = absurd (no_more codes a b r s (s * 128) e f less)
     by (inr from) (inl less) = absurd (no_more codes b a s r (r * 128) f e less)
-    by (inr from) (inr to) = omega arith
-same_answer codes a b r s (inl (few, e)) (inr (many, x)) = absurd (not-exceeded codes a b r few e x)
-same_answer codes a b r s (inr (many, x)) (inl (few, e)) = absurd (not-exceeded codes b a s few e x)
-same_answer codes a b r s (inr (many, x)) (inr (more, y)) = many ∙ sym more
+    by (inr from) (inr to) = let one : r ≡ s = omega arith in ap Some one
+same_answer codes a b (Some r) None e x = absurd (not-exceeded codes a b r e.few e x)
+same_answer codes a b None (Some s) x e = absurd (not-exceeded codes b a s e.few e x)
+same_answer codes a b None None x y = refl
 
--- how many rows there are, by the answer
-found_rows : (codes words : List ℕ) (r : ℕ) → Found codes words r → (t : ℕ) × Partial codes words (min r most_states) t
-found_rows codes words r (inl (few, e)) = (r * 128, subst (λ (n : ℕ). Partial codes words n (r * 128)) {x = r} {y = min r most_states} (omega arith) e)
-found_rows codes words r (inr (many, x)) =
-    (x.rest, subst (λ (n : ℕ). Partial codes words n x.rest) {x = most_states} {y = min r most_states} (omega arith) x.full)
+-- the rows that are laid down, by the answer
+found_rows : (codes words : List ℕ) (r : Option ℕ) → FoundAll codes words r → (t : ℕ) × Partial codes words (rows_laid r) t
+found_rows codes words (Some n) e = (n * 128, e)
+found_rows codes words None x = (x.rest, x.full)
 
 -- and so are the words: rows and keys that were found, and those that stay
-module _ (codes before a b : List ℕ) (r : ℕ) (e : Explores codes before a r) (f : Explores codes before b r) where
-  same : (j : ℕ) → j < min r most_states → Same a b j
+module _ (codes before a b : List ℕ) (r : Option ℕ) (e : Explores codes before a r) (f : Explores codes before b r) where
+  same : (j : ℕ) → j < rows_laid r → Same a b j
   same j low =
       let p = found_rows codes a r e.answer in
       let q = found_rows codes b r f.answer in
-      agree codes a b (min r most_states) (min r most_states) p.0 q.0 p.1 q.1 j low low
+      agree codes a b (rows_laid r) (rows_laid r) p.0 q.0 p.1 q.1 j low low
 
   row_words : (k : ℕ) → k < keys_at → get_or a k 0 ≡ get_or b k 0
-  row_words k low = by (below-or-from k (r * 8))
+  row_words k low = by (below-or-from k (rows_laid r * 8))
     where
-      by : (k < r * 8) ⊎ (r * 8 ≤ k) → get_or a k 0 ≡ get_or b k 0
+      by : (k < rows_laid r * 8) ⊎ (rows_laid r * 8 ≤ k) → get_or a k 0 ≡ get_or b k 0
       by (inl less) =
           let place : k ≡ k / 8 * 8 + k % 8 = omega arith in
           ap (λ (i : ℕ). get_or a i 0) place
@@ -162,9 +159,9 @@ module _ (codes before a b : List ℕ) (r : ℕ) (e : Explores codes before a r)
 
   key-words : (j : ℕ) → j < most_states → key_at a j ≡ key_at b j
   key-words zero low = e.untouched.root ∙ sym f.untouched.root
-  key-words (suc j) low = by (below-or-from (suc j) r)
+  key-words (suc j) low = by (below-or-from (suc j) (rows_laid r))
     where
-      by : (suc j < r) ⊎ (r ≤ suc j) → key_at a (suc j) ≡ key_at b (suc j)
+      by : (suc j < rows_laid r) ⊎ (rows_laid r ≤ suc j) → key_at a (suc j) ≡ key_at b (suc j)
       by (inl less) = (same (suc j) (omega arith)).key (omega arith)
       by (inr from) =
           e.untouched.keys (keys_at + suc j) (omega arith) (omega arith) ∙ sym (f.untouched.keys (keys_at + suc j) (omega arith) (omega arith))
@@ -186,11 +183,11 @@ module _ (codes before a b : List ℕ) (r : ℕ) (e : Explores codes before a r)
           subst (λ (i : ℕ). get_or a i 0 ≡ get_or b i 0) {x = codes_at + (k - codes_at)} {y = k} (omega arith) (later-words (k - codes_at))
 
 -- Two outcomes of a search that its contract permits are one: the answer, and every word of the workspace.
-pub one-search : (codes before a b : List ℕ) (r s : ℕ) → length a ≡ length before → length b ≡ length before
+pub one-search : (codes before a b : List ℕ) (r s : Option ℕ) → length a ≡ length before → length b ≡ length before
     → Explores codes before a r → Explores codes before b s → (r ≡ s) × (a ≡ b)
 one-search codes before a b r s long also e f =
     let one = same_answer codes a b r s e.answer f.answer in (
       one,
       ext_get_or 0 a b (long ∙ sym also)
-          (λ k low. all_words codes before a b r e (subst (λ (n : ℕ). Explores codes before b n) (sym one) f) k),
+          (λ k low. all_words codes before a b r e (subst (λ (answer : Option ℕ). Explores codes before b answer) (sym one) f) k),
     )

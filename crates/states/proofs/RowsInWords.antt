@@ -1,6 +1,9 @@
 -- Rows and keys in the words of a workspace: a row or a key that is laid down is there, and every other one is as it was.
 use Prim.Native.Nat.{ℕ, suc, ◌+◌, ◌-◌, ◌*◌, ◌≤◌, ◌<◌, min}
 use mathlib.Core.Path.{◌≡◌, refl, sym, ◌∙◌, ap, ap₂}
+use mathlib.Core.Bool.{true, false, false≢true}
+use Rattle.std.specs.Prelude.{Option, None, Some}
+use Rattle.std.specs.Option.{is_some}
 use mathlib.Core.List.{List, [], ◌∷◌, ◌++◌}
 use mathlib.Core.Logic.{◌⊎◌, inl, inr}
 use native.Mathlib.Numerals.{add-one}
@@ -9,7 +12,7 @@ use lib.ListN.{length, get_or, take, drop, set, length-take, length-drop, length
 use lib.Arith.{lt_of_le-ne}
 use lib.Seq.{sets, sets-eq, length-sets, length-take-le, take_all, take-suc, take_at, drop_at, drop-append-le, get_or-take, get_or-drop, get_or-set_same, get_or-set_other, drop-set-lt, ext_get_or}
 use Rattle.states.specs.Machinery.Rows.{most_states, keys_at, codes_at, row_at, key_at}
-use Rattle.states.specs.Machinery.Search.{Untouched}
+use Rattle.states.specs.Machinery.Search.{FirstAt, Untouched}
 use Rattle.states.proofs.Below.{below-or-from}
 use Rattle.states.proofs.Parts.{sets_behind}
 
@@ -78,6 +81,16 @@ row_kept words i j row eight other =
 -- the words from a place on that is behind the row
 pub behind-kept : (words : List ℕ) (i n : ℕ) (row : List ℕ) → length row ≡ 8 → i * 8 + 8 ≤ n → drop n (sets words (i * 8) row) ≡ drop n words
 behind-kept words i n row eight room = sets_behind words row (i * 8) n (omega arith)
+
+-- what a search for a row answers: one of the rows, or that none is it
+
+pub row_met : (words : List ℕ) (n : ℕ) (row : List ℕ) (r : Option ℕ) → FirstAt words n row r → is_some r ≡ true → (i : ℕ) × (i < n) × (row_at words i ≡ row)
+row_met words n row (Some i) first some = (i, first.0, first.1)
+row_met words n row None first some = absurd (false≢true some)
+
+pub row_new : (words : List ℕ) (n : ℕ) (row : List ℕ) (r : Option ℕ) → FirstAt words n row r → is_some r ≡ false → (j : ℕ) → j < n → row_at words j ≡ row → ⊥
+row_new words n row (Some i) first none = absurd (false≢true (sym none))
+row_new words n row None first none = first
 
 -- words that no row and no key is laid in
 

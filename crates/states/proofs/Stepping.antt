@@ -8,7 +8,8 @@ use native.Mathlib.Omega.{arith}
 use lib.ListN.{length, take, drop}
 use Rattle.matching.specs.Machinery.Rows.{first_row, step_row, pack}
 use Rattle.states.specs.Machinery.Rows.{most_states, codes_at, codes_laid, row_at, key_at, IsByte}
-use Rattle.states.specs.Machinery.Search.{step_from, Partial, Exceeded, Searched}
+use Rattle.std.specs.Prelude.{Option}
+use Rattle.states.specs.Machinery.Search.{step_from, Partial, Exceeded, FoundBefore, Searched}
 use Rattle.states.proofs.Below.{below-or-from, below_next}
 use Rattle.states.proofs.RowsInWords.{with_row, with-row, with-other-row, with-key, with-other-key}
 
@@ -187,25 +188,10 @@ module _ (codes words : List ℕ) (n i b : ℕ) (p : Partial codes words n (i * 
           tried = tried-next;
         }
 
--- what a step or a row of steps gives to the search that it is a part of, which began before
-module _ (positions : ℕ) (before words after : List ℕ) (n t r : ℕ) (same : drop codes_at words ≡ drop codes_at before) (s : Searched positions words after n t r) where
-  codes-stay : codes_laid positions words ≡ codes_laid positions before
-  codes-stay = ap (take positions) same
-
-  pub search-goes-on : r ≤ most_states → Partial (codes_laid positions before) after r t
-  search-goes-on few = by s.answer
-    where
-      by : ((r ≤ most_states) × Partial (codes_laid positions words) after r t) ⊎ ((r ≡ suc most_states) × Exceeded (codes_laid positions words) after) → Partial (codes_laid positions before) after r t
-      by (inl p) = subst (λ (codes : List ℕ). Partial codes after r t) codes-stay p.1
-      by (inr e) = absurd (omega (arith, e.0))
-
-  pub search-ends : most_states < r → (r ≡ suc most_states) × Exceeded (codes_laid positions before) after
-  search-ends many = by s.answer
-    where
-      by : ((r ≤ most_states) × Partial (codes_laid positions words) after r t) ⊎ ((r ≡ suc most_states) × Exceeded (codes_laid positions words) after)
-          → (r ≡ suc most_states) × Exceeded (codes_laid positions before) after
-      by (inl p) = absurd (omega (arith, p.0))
-      by (inr e) = (e.0, subst (λ (codes : List ℕ). Exceeded codes after) codes-stay e.1)
+-- what a step or a row of steps answers holds for the search that it is a part of, which began before
+pub search-answers : (positions : ℕ) (before words after : List ℕ) (n t : ℕ) (r : Option ℕ) → drop codes_at words ≡ drop codes_at before
+    → Searched positions words after n t r → FoundBefore (codes_laid positions before) after t r
+search-answers positions before words after n t r same s = subst (λ (codes : List ℕ). FoundBefore codes after t r) (ap (take positions) same) s.answer
 
 -- a row that a step leads to has eight words
 pub step-length : (codes : List ℕ) (b : ℕ) (row : List ℕ) → length (step_row codes b row) ≡ 8

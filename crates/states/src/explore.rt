@@ -4,9 +4,7 @@ ghost use Rattle.states.specs.Machinery.Rows.{IsByte, codes_laid, row_at};
 ghost use Rattle.states.specs.Machinery.Search.{Searchable, Enough, Partial, Searched, Explores};
 
 use crate::bytes::{bytes_to_try, next_byte};
-use crate::limits::{
-    CODES, FIRST_BYTE, FOLLOWERS, KEYS, LAST_BYTE, MOST_STATES, STARS, TAKEN_ROW, TOO_MANY_STATES,
-};
+use crate::limits::{CODES, FIRST_BYTE, FOLLOWERS, KEYS, LAST_BYTE, MOST_STATES, STARS, TAKEN_ROW};
 use crate::named::name_positions;
 use crate::rows::{find_row, put_row, row_at};
 use matching::state::first_state;
@@ -24,8 +22,15 @@ fn bytes_from(words: &[u64], positions: usize, row: [u64; 8]) -> [u64; 2]
     bytes_to_try(named, followers)
 }
 
-// The step from row i by byte b, after n rows were found by the steps before it.
-fn try_step(words: &mut [u64], positions: usize, i: usize, from: [u64; 8], b: u8, n: usize) -> usize
+// The step from row i by byte b, after n rows were found by the steps before it: how many there are now, or none where they pass 512.
+fn try_step(
+    words: &mut [u64],
+    positions: usize,
+    i: usize,
+    from: [u64; 8],
+    b: u8,
+    n: usize,
+) -> Option<usize>
     requires { Searchable positions words.old × (i < n) × IsByte b × (from ≡ row_at words.old i)
         × Partial (codes_laid positions words.old) words.old n (i * 128 + b) }
     ensures searched { Searched positions words.old words.new n (i * 128 + b + 1) result }
@@ -39,21 +44,20 @@ fn try_step(words: &mut [u64], positions: usize, i: usize, from: [u64; 8], b: u8
         from,
         used,
     );
-    let at = find_row(words, n, row);
-    if at < n {
-        return n;
+    if find_row(words, n, row).is_some() {
+        return Some(n);
     }
     if MOST_STATES <= n {
-        return TOO_MANY_STATES;
+        return None;
     }
     put_row(words, n, row);
     words[KEYS + n] = (i * 128 + b as usize) as u64;
-    n + 1
+    Some(n + 1)
 }
 
 // The steps from row i by all bytes, ascending, after n rows were found by those from the rows before it. A byte that is not tried leads
 // to the same row as a smaller one.
-fn try_bytes(words: &mut [u64], positions: usize, i: usize, n: usize) -> usize
+fn try_bytes(words: &mut [u64], positions: usize, i: usize, n: usize) -> Option<usize>
     requires { Searchable positions words.old × (i < n) × Partial (codes_laid positions words.old) words.old n (i * 128) }
     ensures { Searched positions words.old words.new n ((i + 1) * 128) result }
 {
@@ -62,19 +66,15 @@ fn try_bytes(words: &mut [u64], positions: usize, i: usize, n: usize) -> usize
     let mut found = n;
     let mut b = next_byte(bytes, FIRST_BYTE);
     while b <= LAST_BYTE {
-        let more = try_step(words, positions, i, from, b, found);
-        if MOST_STATES < more {
-            return more;
-        }
-        found = more;
+        found = try_step(words, positions, i, from, b, found)?;
         b = next_byte(bytes, b + 1);
     }
-    found
+    Some(found)
 }
 
-// All states of the strings of a column, given the codes of its positions: how many there are, or 513 where they pass 512. Only the words
+// All states of the strings of a column, given the codes of its positions: how many there are, or none where they pass 512. Only the words
 // of their rows and keys change.
-pub fn explore(words: &mut [u64], positions: usize) -> usize
+pub fn explore(words: &mut [u64], positions: usize) -> Option<usize>
     requires { Searchable positions words.old }
     ensures { Explores (codes_laid positions words.old) words.old words.new result }
 {
@@ -83,12 +83,8 @@ pub fn explore(words: &mut [u64], positions: usize) -> usize
     let mut n: usize = 1;
     let mut row: usize = 0;
     while row < n {
-        let found = try_bytes(words, positions, row, n);
-        if MOST_STATES < found {
-            return found;
-        }
-        n = found;
+        n = try_bytes(words, positions, row, n)?;
         row += 1;
     }
-    n
+    Some(n)
 }

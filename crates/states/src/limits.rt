@@ -2,8 +2,6 @@
 
 // The states of a column.
 pub const MOST_STATES: usize = 512;
-// The answer where there are more.
-pub const TOO_MANY_STATES: usize = 513;
 
 // The bytes of strings.
 pub const FIRST_BYTE: u8 = 0x21;

@@ -85,19 +85,17 @@ fn is_row_by(words: &[u64], i: usize, row: [u64; 8], word: usize, told: u64) -> 
     is_row(words, i, row)
 }
 
-// The lowest of n rows that is this one, or n.
-pub(crate) fn find_row(words: &[u64], n: usize, row: [u64; 8]) -> usize
+// The lowest of n rows that is this one.
+pub(crate) fn find_row(words: &[u64], n: usize, row: [u64; 8]) -> Option<usize>
     requires { n * 8 ≤ length words.now }
     ensures { FirstAt words.now n row result }
 {
     let word = telling_word(row);
     let told = row[word];
-    let mut i: usize = 0;
-    while i < n {
+    for i in 0..n {
         if is_row_by(words, i, row, word, told) {
-            return i;
+            return Some(i);
         }
-        i += 1;
     }
-    n
+    None
 }

@@ -1,6 +1,6 @@
 -- What the functions that explore a column promise each other. A step from row i by byte b has the number i * 128 + b, and a row's key is
 -- the number of the step that found it.
-use Rattle.std.specs.Prelude.{ℕ, zero, suc, ◌+◌, ◌*◌, ◌/◌, ◌%◌, ◌≤◌, ◌<◌, ◌≡◌, false, List, [], ◌∷◌, ◌⊎◌, eqb, length, get_or, drop}
+use Rattle.std.specs.Prelude.{ℕ, zero, suc, ◌+◌, ◌*◌, ◌/◌, ◌%◌, ◌≤◌, ◌<◌, ◌≡◌, false, List, [], ◌∷◌, ◌⊎◌, Option, None, Some, eqb, length, get_or, drop}
 use Rattle.stored.specs.Choice.{pick}
 use Rattle.matching.specs.Machinery.Rows.{row_bit, first_row, step_row, forward}
 use Rattle.states.specs.Machinery.Rows.{prints_at, most_states, keys_at, codes_at, row_at, key_at, codes_laid, IsByte}
@@ -51,31 +51,44 @@ pub record Exceeded (codes words : List ℕ) : Type 0 where
   pub new : (j : ℕ) → j < most_states → row_at words j ≡ step_from codes words row by → ⊥
 
 -- the words before the codes that n rows and their keys do not take are as before, and so is the one for the key of the first row, which
--- has none; for 513, too many, no others are left
+-- has none; for 512 rows no others are left
 pub record Untouched (before after : List ℕ) (n : ℕ) : Type 0 where
   pub rows : (k : ℕ) → n * 8 ≤ k → k < keys_at → get_or after k 0 ≡ get_or before k 0
   pub root : get_or after keys_at 0 ≡ get_or before keys_at 0
   pub keys : (k : ℕ) → keys_at + n ≤ k → k < codes_at → get_or after k 0 ≡ get_or before k 0
 
--- a search went on from n rows to the step before number t: r rows were found, or there are too many; all other words stay
-pub record Searched (positions : ℕ) (before after : List ℕ) (n t r : ℕ) : Type 0 where
-  pub kept : drop codes_at after ≡ drop codes_at before
-  pub untouched : Untouched before after r
-  pub more : n ≤ r
-  pub answer :
-      ((r ≤ most_states) × Partial (codes_laid positions before) after r t) ⊎ ((r ≡ suc most_states) × Exceeded (codes_laid positions before) after)
+-- how many rows are laid down by an answer: all that there is room for where there are more
+abbrev pub rows_laid : Option ℕ → ℕ
+rows_laid None = most_states
+rows_laid (Some n) = n
 
--- a whole search: all r rows of a column, or there are too many; all other words stay
-pub record Explores (codes before after : List ℕ) (r : ℕ) : Type 0 where
-  pub kept : drop codes_at after ≡ drop codes_at before
-  pub untouched : Untouched before after r
-  pub answer : ((r ≤ most_states) × Explored codes after r) ⊎ ((r ≡ suc most_states) × Exceeded codes after)
+-- so many rows were found by the steps before number t, or there are more than 512
+abbrev pub FoundBefore : List ℕ → List ℕ → ℕ → Option ℕ → Type 0
+FoundBefore codes words t None = Exceeded codes words
+FoundBefore codes words t (Some n) = Partial codes words n t
 
--- r is the lowest of n rows that is this one, or n
-pub record FirstAt (words : List ℕ) (n : ℕ) (row : List ℕ) (r : ℕ) : Type 0 where
-  pub low : r ≤ n
-  pub here : r < n → row_at words r ≡ row
-  pub before : (j : ℕ) → j < r → row_at words j ≡ row → ⊥
+-- so many rows are all, or there are more than 512
+abbrev pub FoundAll : List ℕ → List ℕ → Option ℕ → Type 0
+FoundAll codes words None = Exceeded codes words
+FoundAll codes words (Some n) = Explored codes words n
+
+-- a search went on from n rows to the step before number t: so many rows were found, or there are too many; all other words stay
+pub record Searched (positions : ℕ) (before after : List ℕ) (n t : ℕ) (r : Option ℕ) : Type 0 where
+  pub kept : drop codes_at after ≡ drop codes_at before
+  pub untouched : Untouched before after (rows_laid r)
+  pub more : n ≤ rows_laid r
+  pub answer : FoundBefore (codes_laid positions before) after t r
+
+-- a whole search: so many rows are all of a column, or there are too many; all other words stay
+pub record Explores (codes before after : List ℕ) (r : Option ℕ) : Type 0 where
+  pub kept : drop codes_at after ≡ drop codes_at before
+  pub untouched : Untouched before after (rows_laid r)
+  pub answer : FoundAll codes after r
+
+-- the lowest of n rows that is this one, or none
+abbrev pub FirstAt : List ℕ → ℕ → List ℕ → Option ℕ → Type 0
+FirstAt words n row None = (j : ℕ) → j < n → row_at words j ≡ row → ⊥
+FirstAt words n row (Some i) = (i < n) × (row_at words i ≡ row) × ((j : ℕ) → j < i → row_at words j ≡ row → ⊥)
 
 -- each of n rows but the first has an older one and a byte that it was found by
 pub record Keyed (words : List ℕ) (n : ℕ) : Type 0 where

@@ -1,15 +1,15 @@
 use Prim.Native.Nat.{ℕ, ◌+◌, ◌-◌, ◌*◌}
 use mathlib.Core.Path.{◌≡◌, refl, sym, ap, ◌∙◌, subst}
 use mathlib.Core.List.{List}
-use mathlib.Core.Logic.{inl, inr}
 use native.Mathlib.Omega.{arith}
 use lib.ListN.{length, take, drop}
 use lib.Seq.{sets}
 use Rattle.matching.specs.Machinery.Rows.{first_row}
-use Rattle.states.specs.Machinery.Rows.{codes_at, codes_laid, row_at}
-use Rattle.states.specs.Machinery.Search.{Partial, Untouched}
+use Rattle.std.specs.Prelude.{None, Some}
+use Rattle.states.specs.Machinery.Rows.{most_states, codes_at, codes_laid, row_at}
+use Rattle.states.specs.Machinery.Search.{Partial, Untouched, Explores}
 use Rattle.states.proofs.RowsInWords.{row_laid, behind-kept, untouched-same, untouched-both, untouched-first}
-use Rattle.states.proofs.Stepping.{search-begins, search-goes-on, search-ends, first-length}
+use Rattle.states.proofs.Stepping.{search-begins, search-answers, first-length}
 use Rattle.states.proofs.TakenRows.{searchable-stays}
 use Rattle.states.proofs.explore.explore.Goals as goal
 
@@ -45,8 +45,8 @@ loop-row-init c =
     ∙ ap (λ (l : List ℕ). first_row (take c.args.positions l)) (sym stay)) in
     (omega arith, refl, refl, begun, untouched-same c.put_row.new.words 1)
 
-pub try_bytes-found-requires : goal.try_bytes-found-requires
-try_bytes-found-requires c =
+pub try_bytes-requires : goal.try_bytes-requires
+try_bytes-requires c =
     let first = first_laid c.args.words.now c.args.positions c.first_state-first.ensures in
     let stay = codes_stay c.args.words.now c.args.positions c.put_row.new.words first c.put_row.ensures in
     let l = c.loop-row in
@@ -57,11 +57,8 @@ try_bytes-found-requires c =
       subst (λ (codes : List ℕ). Partial codes l.words l.n (l.row * 128)) (sym (ap (take a.positions) l.invariant.2)) l.invariant.3,
     )
 
-pub shape_of-words-then-found-gt-MOST_STATES : goal.shape_of-words-then-found-gt-MOST_STATES
-shape_of-words-then-found-gt-MOST_STATES c = c.try_bytes-found.auto.words ∙ c.loop-row.invariant.1 ∙ c.put_row.auto.words
-
-pub returns-then-found-gt-MOST_STATES : goal.returns-then-found-gt-MOST_STATES
-returns-then-found-gt-MOST_STATES c =
+pub returns-in_err-n : goal.returns-in_err-n
+returns-in_err-n c =
     let first = first_laid c.args.words.now c.args.positions c.first_state-first.ensures in
     let stay = codes_stay c.args.words.now c.args.positions c.put_row.new.words first c.put_row.ensures in
     let untouched = rest_untouched c.args.words.now c.args.positions c.put_row.new.words first c.put_row.ensures in
@@ -69,12 +66,14 @@ returns-then-found-gt-MOST_STATES c =
     let a = c.args in
     let laid = c.put_row.new.words in
     let same = l.invariant.2 ∙ stay in
+    let searched = c.in_err-n.ensures in
+    subst (Explores (codes_laid a.positions a.words.now) a.words.now c.try_bytes.new.words) (sym c.from_residual.ensures)
     record {
-      kept = c.try_bytes-found.ensures.kept ∙ same;
+      kept = searched.kept ∙ same;
       untouched =
-          untouched-both a.words.now laid c.try_bytes-found.new.words 1 c.try_bytes-found.result (omega (arith, l.invariant.3.some, c.try_bytes-found.ensures.more)) untouched
-          (untouched-both laid l.words c.try_bytes-found.new.words l.n c.try_bytes-found.result c.try_bytes-found.ensures.more l.invariant.4 c.try_bytes-found.ensures.untouched);
-      answer = inr (search-ends a.positions a.words.now l.words c.try_bytes-found.new.words l.n ((l.row + 1) * 128) c.try_bytes-found.result same c.try_bytes-found.ensures (omega arith));
+          untouched-both a.words.now laid c.try_bytes.new.words 1 most_states (omega arith) untouched
+          (untouched-both laid l.words c.try_bytes.new.words l.n most_states searched.more l.invariant.4 searched.untouched);
+      answer = search-answers a.positions a.words.now l.words c.try_bytes.new.words l.n ((l.row + 1) * 128) None same searched;
     }
 
 pub loop-row-smaller : goal.loop-row-smaller
@@ -85,11 +84,11 @@ loop-row-preserved c =
     let l = c.loop-row in
     let a = c.args in
     let laid = c.put_row.new.words in (
-      omega (arith, c.try_bytes-found.ensures.more),
-      c.try_bytes-found.auto.words ∙ l.invariant.1,
-      c.try_bytes-found.ensures.kept ∙ l.invariant.2,
-      search-goes-on a.positions laid l.words c.try_bytes-found.new.words l.n ((l.row + 1) * 128) c.try_bytes-found.result l.invariant.2 c.try_bytes-found.ensures (omega arith),
-      untouched-both laid l.words c.try_bytes-found.new.words l.n c.try_bytes-found.result c.try_bytes-found.ensures.more l.invariant.4 c.try_bytes-found.ensures.untouched,
+      omega (arith, c.in_ok-n.ensures.more),
+      c.try_bytes.auto.words ∙ l.invariant.1,
+      c.in_ok-n.ensures.kept ∙ l.invariant.2,
+      search-answers a.positions laid l.words c.try_bytes.new.words l.n ((l.row + 1) * 128) (Some c.in_ok-n.n) l.invariant.2 c.in_ok-n.ensures,
+      untouched-both laid l.words c.try_bytes.new.words l.n c.in_ok-n.n c.in_ok-n.ensures.more l.invariant.4 c.in_ok-n.ensures.untouched,
     )
 
 pub shape_of-words : goal.shape_of-words
@@ -107,9 +106,6 @@ returns c =
       kept = l.invariant.2 ∙ stay;
       untouched = untouched-both a.words.now c.put_row.new.words l.words 1 l.n l.invariant.3.some untouched l.invariant.4;
       answer =
-          inl (
-            l.invariant.3.few,
-            subst (λ (k : ℕ). Partial (codes_laid a.positions a.words.now) l.words l.n (k * 128)) all
-                (subst (λ (codes : List ℕ). Partial (take a.positions codes) l.words l.n (l.row * 128)) stay l.invariant.3),
-          );
+          subst (λ (k : ℕ). Partial (codes_laid a.positions a.words.now) l.words l.n (k * 128)) all
+          (subst (λ (codes : List ℕ). Partial (take a.positions codes) l.words l.n (l.row * 128)) stay l.invariant.3);
     }

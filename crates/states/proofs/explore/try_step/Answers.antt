@@ -1,15 +1,14 @@
 -- The row that the step leads to is looked for among those that were found; where it is new it goes behind them.
-use Prim.Native.Nat.{ℕ, suc, ◌+◌, ◌-◌, ◌*◌, ◌/◌, ◌<◌}
+use Prim.Native.Nat.{ℕ, ◌+◌, ◌-◌, ◌*◌, ◌/◌, ◌<◌}
 use mathlib.Core.Path.{◌≡◌, refl, sym, ap, ap₂, ◌∙◌, subst}
 use mathlib.Core.List.{List}
-use mathlib.Core.Logic.{inl, inr}
 use native.Mathlib.Numerals.{add-one}
 use native.Mathlib.Omega.{arith}
 use lib.ListN.{length, take, drop, set}
 use Rattle.matching.specs.Machinery.Words.{words_row}
 use Rattle.states.specs.Machinery.Rows.{IsByte, most_states, keys_at, codes_at, codes_laid, row_at, stars_laid}
 use Rattle.states.specs.Machinery.Search.{step_from, Searchable, Partial, Untouched}
-use Rattle.states.proofs.RowsInWords.{with_row, with-other-row, with-kept, with-untouched, untouched-same}
+use Rattle.states.proofs.RowsInWords.{row_met, row_new, with_row, with-other-row, with-kept, with-untouched, untouched-same}
 use Rattle.states.proofs.Stepping.{step-known, step-over, step-new, step-length}
 use Rattle.states.proofs.TakenRows.{step-leads}
 use Rattle.states.proofs.explore.try_step.Goals as goal
@@ -25,36 +24,29 @@ leads words positions i b searchable byte from same e =
     {x = at + 8 - at} {y = 8} (omega arith) same
     ∙ step-leads positions words searchable i b byte
 
-pub returns-then-at-n : goal.returns-then-at-n
-returns-then-at-n c =
+pub returns-then-is_some-clause-searched : goal.returns-then-is_some-clause-searched
+returns-then-is_some-clause-searched c =
     let a = c.args in
     let words = a.words.now in
-    let codes = codes_laid a.positions words in
     let row = leads words a.positions a.i a.b c.requires.0 c.requires.2 c.args.from c.requires.3 c.step_words-row.ensures in
-    let found = c.find_row-at.ensures in record {
-      searched = record {
-        kept = refl;
-        untouched = untouched-same words a.n;
-        more = omega arith;
-        answer = inl (c.requires.4.few, step-known codes words a.n a.i a.b c.requires.4 c.requires.1 c.requires.2 c.find_row-at.result c.if-at-n.true (found.here c.if-at-n.true ∙ row));
-      };
+    let met = row_met words a.n c.step_words-row.result c.find_row.result c.find_row.ensures (sym c.is_some.ensures ∙ c.if-is_some.true) in record {
       kept = refl;
+      untouched = untouched-same words a.n;
+      more = omega arith;
+      answer = step-known (codes_laid a.positions words) words a.n a.i a.b c.requires.4 c.requires.1 c.requires.2 met.0 met.1 (met.2 ∙ row);
     }
 
-pub returns-then-n-ge-MOST_STATES : goal.returns-then-n-ge-MOST_STATES
-returns-then-n-ge-MOST_STATES c =
+pub returns-then-n-ge-MOST_STATES-clause-searched : goal.returns-then-n-ge-MOST_STATES-clause-searched
+returns-then-n-ge-MOST_STATES-clause-searched c =
     let a = c.args in
     let words = a.words.now in
-    let codes = codes_laid a.positions words in
     let row = leads words a.positions a.i a.b c.requires.0 c.requires.2 c.args.from c.requires.3 c.step_words-row.ensures in
-    let found = c.find_row-at.ensures in record {
-      searched = record {
-        kept = refl;
-        untouched = untouched-same words (suc most_states);
-        more = omega (arith, c.requires.4.few);
-        answer = inr (refl, step-over codes words a.n a.i a.b c.requires.4 c.requires.1 c.requires.2 (omega arith) (λ j l same. found.before j (omega arith) (same ∙ sym row)));
-      };
+    let new = row_new words a.n c.step_words-row.result c.find_row.result c.find_row.ensures (sym c.is_some.ensures ∙ c.if-is_some.false) in
+    record {
       kept = refl;
+      untouched = untouched-same words most_states;
+      more = c.requires.4.few;
+      answer = step-over (codes_laid a.positions words) words a.n a.i a.b c.requires.4 c.requires.1 c.requires.2 (omega arith) (λ j l same. new j l (same ∙ sym row));
     }
 
 pub returns : goal.returns
@@ -63,7 +55,7 @@ returns c =
     let words = a.words.now in
     let codes = codes_laid a.positions words in
     let row = leads words a.positions a.i a.b c.requires.0 c.requires.2 c.args.from c.requires.3 c.step_words-row.ensures in
-    let found = c.find_row-at.ensures in
+    let new = row_new words a.n c.step_words-row.result c.find_row.result c.find_row.ensures (sym c.is_some.ensures ∙ c.if-is_some.false) in
     let result = c.step_words-row.result in
     let eight : length result ≡ 8 = ap length row ∙ step-length codes a.b (row_at words a.i) in
     let space : a.n < most_states = omega arith in
@@ -75,12 +67,9 @@ returns c =
             (with-untouched words a.n result (a.i * 128 + a.b) eight space (omega (arith, c.requires.0.room)) c.requires.4.some);
         more = omega arith;
         answer =
-            inl (
-              omega arith,
-              subst (λ (l : List ℕ). Partial codes l (a.n + 1) (a.i * 128 + a.b + 1)) (sym laid)
-                  (subst (λ (m : ℕ). Partial codes (with_row words a.n result (a.i * 128 + a.b)) m (a.i * 128 + a.b + 1)) (sym (add-one a.n))
-                  (step-new codes words a.n a.i a.b c.requires.4 c.requires.1 c.requires.2 result row eight space (omega (arith, c.requires.0.room)) (λ j l. found.before j (omega arith)))),
-            );
+            subst (λ (l : List ℕ). Partial codes l (a.n + 1) (a.i * 128 + a.b + 1)) (sym laid)
+            (subst (λ (m : ℕ). Partial codes (with_row words a.n result (a.i * 128 + a.b)) m (a.i * 128 + a.b + 1)) (sym (add-one a.n))
+            (step-new codes words a.n a.i a.b c.requires.4 c.requires.1 c.requires.2 result row eight space (omega (arith, c.requires.0.room)) new));
       };
       kept = ap (λ (l : List ℕ). row_at l a.i) laid
           ∙ with-other-row words a.n result (a.i * 128 + a.b) eight space (omega (arith, c.requires.0.room)) a.i (omega (arith, c.requires.1, c.requires.4.few)) (λ w. omega (arith, c.requires.1));
