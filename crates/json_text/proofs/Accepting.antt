@@ -1,17 +1,17 @@
 -- Which texts the machine takes from a phase and a stack on.
+use Rattle.std.proofs.Common.{Option, Some, None}
 use Prim.Native.Nat.{ℕ}
 use mathlib.Core.Bool.{Bool, false}
 use mathlib.Core.List.{List, [], ◌∷◌}
 use lib.Dec.{eqb}
+use Rattle.json_text.specs.declared.machine.State.{State}
 use Rattle.json_text.specs.Choice.{pick}
 use Rattle.json_text.specs.Machinery.Machine.{step_in, at_rest}
 use Rattle.json_text.specs.declared.machine.Phase.{Phase}
-use Rattle.json_text.specs.declared.machine.Turn.{Turn}
-use Rattle.json_text.specs.declared.machine.Turn.TheVariants as T
 
-abbrev pub runs : (Phase → ℕ → Bool) → Turn → Bool
-runs go (T.Next s) = go s.phase s.stack
-runs go T.Fails = false
+abbrev pub runs : (Phase → ℕ → Bool) → Option State → Bool
+runs go (Some s) = go s.phase s.stack
+runs go None = false
 
 abbrev pub accepts : List ℕ → Phase → ℕ → Bool
 accepts [] p w = pick (at_rest p) (eqb w 1) false

@@ -1,4 +1,5 @@
 -- What the reader of texts finds is what is said of them.
+use Rattle.std.proofs.Common.{Option, Some, None}
 use Prim.Native.Nat.{ℕ}
 use mathlib.Core.Path.{◌≡◌, refl, sym, ◌∙◌}
 use mathlib.Core.Bool.{true, false}
@@ -9,8 +10,6 @@ use Rattle.json_text.specs.Machinery.Reading.{fault_of}
 use Rattle.json_text.specs.Grammar.{Text}
 use Rattle.json_text.specs.Answers.{Says}
 use Rattle.json_text.specs.declared.machine.Phase.TheVariants as P
-use Rattle.json_text.specs.declared.reader.Fault.{Fault}
-use Rattle.json_text.specs.declared.reader.Fault.TheVariants as F
 use Rattle.json_text.proofs.Choosing.{never}
 use Rattle.json_text.proofs.Complete.{complete}
 use Rattle.json_text.proofs.Sound.{sound}
@@ -22,9 +21,9 @@ pub json-first-fault : (t : List ℕ) → Says t (fault_of t)
 unfolding fault_of
 json-first-fault t = go (fault_of t) (outcome t 0 P.Value [] tt)
   where
-    go : (f : Fault) → Outcome t 0 P.Value 1 f → Says t f
-    go F.Nothing h = sound t h
-    go (F.At p) h =
+    go : (f : Option ℕ) → Outcome t 0 P.Value 1 f → Says t f
+    go None h = sound t h
+    go (Some p) h =
         let x = h.2 in
         let same : p ≡ h.0 = omega (arith, h.1) in
         rw same (record {
@@ -35,9 +34,9 @@ json-first-fault t = go (fault_of t) (outcome t 0 P.Value [] tt)
         })
 
 -- "JSON is RFC 8259": a text has no fault.
-pub json-sound : (t : List ℕ) → Text t → fault_of t ≡ F.Nothing
+pub json-sound : (t : List ℕ) → Text t → fault_of t ≡ None
 json-sound t x = go (fault_of t) (json-first-fault t)
   where
-    go : (f : Fault) → Says t f → f ≡ F.Nothing
-    go F.Nothing h = refl
-    go (F.At p) h = absurd (h.no_text x)
+    go : (f : Option ℕ) → Says t f → f ≡ None
+    go None h = refl
+    go (Some p) h = absurd (h.no_text x)

@@ -1,4 +1,5 @@
 -- Every text of the grammar is taken.
+use Rattle.std.proofs.Common.{Option, None}
 use Prim.Native.Nat.{ℕ, suc, ◌%◌, ◌≤◌}
 use mathlib.Core.Path.{◌≡◌, refl, ◌∙◌, ap}
 use mathlib.Core.Bool.{Bool, true, false, ◌||◌}
@@ -7,6 +8,7 @@ use lib.Dec.{eqb}
 use lib.ListN.{length}
 use native.Mathlib.Omega.{arith}
 use borrow.Author.Tests.{lt-ltb, le-leb, lt-leb, ne_eqb, eqb-true}
+use Rattle.json_text.specs.declared.machine.State.{State}
 use Rattle.json_text.specs.Choice.{pick}
 use Rattle.json_text.specs.Bytes.{within, is_blank, is_digit, is_exponent, is_sign}
 use Rattle.json_text.specs.Machinery.Strings.{plain_step, wide_step}
@@ -21,8 +23,6 @@ use Rattle.json_text.specs.declared.machine.Role.{Role}
 use Rattle.json_text.specs.declared.machine.Role.TheVariants as R
 use Rattle.json_text.specs.declared.machine.Phase.{Phase}
 use Rattle.json_text.specs.declared.machine.Phase.TheVariants as P
-use Rattle.json_text.specs.declared.machine.Turn.{Turn}
-use Rattle.json_text.specs.declared.machine.Turn.TheVariants as T
 use Rattle.json_text.proofs.Choosing.{never, choose, ranged}
 use Rattle.json_text.proofs.Stacks.{Bracket, code, not-one, half, parity, has_room}
 use Rattle.json_text.proofs.Stacks.Bracket.{list, object}
@@ -103,7 +103,7 @@ behind-value f b20 b09 b0A b0D b2C b7D b5D b s w =
     (λ e. choose Goes (eqb b 0x2C) _ _ (λ e h. rw (eqb-true b 0x2C e) b2C)
     (λ e. choose Goes (eqb b 0x5D) _ _ (λ e h. rw (eqb-true b 0x5D e) b5D) (λ e h. never (cc))))))
   where
-    Goes : Turn → Type 0
+    Goes : Option State → Type 0
     Goes t = runs (accepts s) t ≡ true
 
 -- a number that may end does so before what may stand behind a value
@@ -206,11 +206,11 @@ unsigned-minus (Unsigned.unsigned (Whole.positive {a = a} e ds) f p) w h =
 -- Lists and objects
 
 pub after_list : (ks : List Bracket) (b : ℕ)
-    → after_step (code (list ∷ ks)) b ≡ pick (is_blank b) (goes P.After (code (list ∷ ks))) (pick (eqb b 0x2C) (goes P.Value (code (list ∷ ks))) (pick (eqb b 0x5D) (goes P.After (code ks)) T.Fails))
+    → after_step (code (list ∷ ks)) b ≡ pick (is_blank b) (goes P.After (code (list ∷ ks))) (pick (eqb b 0x2C) (goes P.Value (code (list ∷ ks))) (pick (eqb b 0x5D) (goes P.After (code ks)) None))
 after_list ks b = rw (not-one list ks, parity list ks, half list ks)
 
 pub after-object : (ks : List Bracket) (b : ℕ)
-    → after_step (code (object ∷ ks)) b ≡ pick (is_blank b) (goes P.After (code (object ∷ ks))) (pick (eqb b 0x2C) (goes P.Member (code (object ∷ ks))) (pick (eqb b 0x7D) (goes P.After (code ks)) T.Fails))
+    → after_step (code (object ∷ ks)) b ≡ pick (is_blank b) (goes P.After (code (object ∷ ks))) (pick (eqb b 0x2C) (goes P.Member (code (object ∷ ks))) (pick (eqb b 0x7D) (goes P.After (code ks)) None))
 after-object ks b = rw (not-one object ks, parity object ks, half object ks)
 
 -- the first element of a list is a value, and the first member of an object a member

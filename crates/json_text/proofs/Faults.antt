@@ -1,4 +1,5 @@
 -- Where the machine stops, in words of what it takes.
+use Rattle.std.proofs.Common.{Option, Some, None}
 use Prim.Native.Nat.{ℕ, zero, suc, ◌+◌, ◌≤◌, ◌<◌}
 use mathlib.Core.Path.{◌≡◌, refl, sym, subst}
 use mathlib.Core.Bool.{Bool, true, false}
@@ -9,14 +10,10 @@ use Rattle.json_text.specs.Choice.{pick}
 use Rattle.json_text.specs.Machinery.Machine.{step_in, step_of, is_ended}
 use Rattle.json_text.specs.declared.machine.Phase.{Phase}
 use Rattle.json_text.specs.declared.machine.State.{State}
-use Rattle.json_text.specs.declared.machine.Turn.{Turn}
-use Rattle.json_text.specs.declared.machine.Turn.TheVariants as T
 use Rattle.json_text.proofs.Choosing.{never}
 use Rattle.json_text.proofs.Stacks.{Bracket, code}
 use Rattle.json_text.proofs.Accepting.{accepts}
 use Rattle.json_text.specs.Machinery.Reading.{onward, fault_from}
-use Rattle.json_text.specs.declared.reader.Fault.{Fault}
-use Rattle.json_text.specs.declared.reader.Fault.TheVariants as F
 use Rattle.json_text.proofs.Remaining.{Fits}
 use Rattle.json_text.proofs.Stepping.{at, steps}
 use Rattle.json_text.proofs.Completing.{completion, completes}
@@ -28,12 +25,12 @@ pub record Stops (t : List ℕ) (p : Phase) (w i : ℕ) : Type 0 where
   pub begins : (u : List ℕ) × (accepts (take i t ++ u) p w ≡ true)
   pub longest : (m : ℕ) → i < m → m ≤ length t → (u : List ℕ) → accepts (take m t ++ u) p w ≡ true → ⊥
 
-abbrev pub Outcome : List ℕ → ℕ → Phase → ℕ → Fault → Type 0
-Outcome t n p w F.Nothing = accepts t p w ≡ true
-Outcome t n p w (F.At q) = (i : ℕ) × (q ≡ n + i) × Stops t p w i
+abbrev pub Outcome : List ℕ → ℕ → Phase → ℕ → Option ℕ → Type 0
+Outcome t n p w None = accepts t p w ≡ true
+Outcome t n p w (Some q) = (i : ℕ) × (q ≡ n + i) × Stops t p w i
 
 -- the byte at hand is not taken
-stuck : (t : List ℕ) (p : Phase) (ks : List Bracket) (b : ℕ) → Fits p ks → step_in p (code ks) b ≡ T.Fails → Stops (b ∷ t) p (code ks) 0
+stuck : (t : List ℕ) (p : Phase) (ks : List Bracket) (b : ℕ) → Fits p ks → step_in p (code ks) b ≡ None → Stops (b ∷ t) p (code ks) 0
 stuck t p ks b f e =
     record {
       inside = omega arith;
@@ -47,7 +44,7 @@ stuck t p ks b f e =
     go (suc m) l k u h = let x : false ≡ true = rw e at h in never (cc)
 
 -- the byte at hand is taken
-on : (t : List ℕ) (p : Phase) (w b : ℕ) (s : State) (i : ℕ) → step_in p w b ≡ T.Next s → Stops t s.phase s.stack i → Stops (b ∷ t) p w (suc i)
+on : (t : List ℕ) (p : Phase) (w b : ℕ) (s : State) (i : ℕ) → step_in p w b ≡ Some s → Stops t s.phase s.stack i → Stops (b ∷ t) p w (suc i)
 on t p w b s i e x =
     record {
       inside = omega (arith, x.inside);
@@ -64,7 +61,7 @@ pub outcome : (t : List ℕ) (n : ℕ) (p : Phase) (ks : List Bracket) → Fits 
 unfolding step_of is_ended
 outcome [] n p ks f = go (accepts [] p (code ks)) refl
   where
-    go : (x : Bool) → accepts [] p (code ks) ≡ x → Outcome [] n p (code ks) (pick x F.Nothing (F.At n))
+    go : (x : Bool) → accepts [] p (code ks) ≡ x → Outcome [] n p (code ks) (pick x None (Some n))
     go true e = e
     go false e = (
       0,
@@ -78,15 +75,15 @@ outcome [] n p ks f = go (accepts [] p (code ks)) refl
     )
 outcome (b ∷ t) n p ks f = go (step_in p (code ks) b) refl (outcome t)
   where
-    past : (s : State) → step_in p (code ks) b ≡ T.Next s → (x : Fault) → Outcome t (n + 1) s.phase s.stack x → Outcome (b ∷ t) n p (code ks) x
-    past s e F.Nothing y = rw e y
-    past s e (F.At q) y = (suc y.0, omega (arith, y.1), on t p (code ks) b s y.0 e y.2)
+    past : (s : State) → step_in p (code ks) b ≡ Some s → (x : Option ℕ) → Outcome t (n + 1) s.phase s.stack x → Outcome (b ∷ t) n p (code ks) x
+    past s e None y = rw e y
+    past s e (Some q) y = (suc y.0, omega (arith, y.1), on t p (code ks) b s y.0 e y.2)
 
-    go : (v : Turn) → step_in p (code ks) b ≡ v
+    go : (v : Option State) → step_in p (code ks) b ≡ v
         → ((n : ℕ) (q : Phase) (ls : List Bracket) → Fits q ls → Outcome t n q (code ls) (fault_from t n (at q ls)))
         → Outcome (b ∷ t) n p (code ks) (onward (fault_from t (n + 1)) n v)
-    go (T.Next s) e ih =
+    go (Some s) e ih =
         let x = steps b s p ks f e in
         past s e (fault_from t (n + 1) s)
         (subst (λ (r : State). Outcome t (n + 1) r.phase r.stack (fault_from t (n + 1) r)) (sym x.same) (ih (n + 1) x.phase x.stack x.fits))
-    go T.Fails e ih = (0, omega arith, stuck t p ks b f e)
+    go None e ih = (0, omega arith, stuck t p ks b f e)

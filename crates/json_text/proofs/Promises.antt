@@ -1,4 +1,5 @@
 -- What is promised of JSON texts, in statements that can be read without their proofs. What the reader answers is in `policy`'s promises.
+use Rattle.std.proofs.Common.{Option, Some, None}
 use Prim.Native.Nat.{ℕ}
 use mathlib.Core.Path.{◌≡◌, refl}
 use mathlib.Core.Bool.{Bool, true, false}
@@ -9,18 +10,16 @@ use borrow.Author.Tests.{ltb-true, ltb-false}
 use Rattle.json_text.specs.Grammar.{Text}
 use Rattle.json_text.specs.Trees.{tree_of}
 use Rattle.json_text.specs.Answers.{Says}
-use Rattle.json_text.specs.declared.reader.Fault.{Fault}
-use Rattle.json_text.specs.declared.reader.Fault.TheVariants as F
 use Rattle.json_text.proofs.OneTree
 
 -- "The place of 20 is the length of the longest": there is one such place, and so one answer.
-pub one-fault : (t : List ℕ) (f g : Fault) → Says t f → Says t g → f ≡ g
-one-fault t F.Nothing F.Nothing x y = refl
-one-fault t F.Nothing (F.At q) x y = absurd (y.no_text x)
-one-fault t (F.At p) F.Nothing x y = absurd (x.no_text y)
-one-fault t (F.At p) (F.At q) x y = go (ltb p q) refl (ltb q p) refl
+pub one-fault : (t : List ℕ) (f g : Option ℕ) → Says t f → Says t g → f ≡ g
+one-fault t None None x y = refl
+one-fault t None (Some q) x y = absurd (y.no_text x)
+one-fault t (Some p) None x y = absurd (x.no_text y)
+one-fault t (Some p) (Some q) x y = go (ltb p q) refl (ltb q p) refl
   where
-    go : (a : Bool) → ltb p q ≡ a → (b : Bool) → ltb q p ≡ b → F.At p ≡ F.At q
+    go : (a : Bool) → ltb p q ≡ a → (b : Bool) → ltb q p ≡ b → Some p ≡ Some q
     go true e b f = absurd (x.longest q (ltb-true p q e) y.inside y.begins)
     go false e true f = absurd (y.longest p (ltb-true q p f) x.inside x.begins)
     go false e false f =

@@ -1,4 +1,5 @@
 -- Runs of bytes that leave the machine where it is: where they end, and that they change neither the tokens nor the fault.
+use Rattle.std.proofs.Common.{Option}
 use Prim.Native.Nat.{ℕ, suc, ◌+◌, ◌-◌, ◌≤◌, ◌<◌}
 use mathlib.Core.Path.{◌≡◌, refl, sym, ◌∙◌, ap}
 use mathlib.Core.Bool.{Bool, true, false}
@@ -15,7 +16,6 @@ use Rattle.json_text.specs.Machinery.Runs.{leading, run_of}
 use Rattle.json_text.specs.declared.machine.Phase.{Phase}
 use Rattle.json_text.specs.declared.machine.Phase.TheVariants as P
 use Rattle.json_text.specs.declared.strings.Inside.TheVariants as I
-use Rattle.json_text.specs.declared.reader.Fault.{Fault}
 use Rattle.json_text.proofs.Comparing.{left}
 use Rattle.json_text.proofs.Complete.{phase_of}
 use Rattle.json_text.proofs.Tokenizing.{blank-stays}
@@ -112,7 +112,7 @@ module _ (w : ℕ) where
 
 -- the fault behind a run is that before it
 module _ (w : ℕ) where
-  abbrev fault_by : Phase → ℕ → List ℕ → Fault
+  abbrev fault_by : Phase → ℕ → List ℕ → Option ℕ
   fault_by p n s = fault_from s n (record { phase = p; stack = w })
 
   pub fault-over : (p : Phase) (n : ℕ) (s : List ℕ)

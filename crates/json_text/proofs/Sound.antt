@@ -1,17 +1,17 @@
 -- Every text that is taken is one of the grammar.
+use Rattle.std.proofs.Common.{Option, Some, None}
 use Prim.Native.Nat.{ℕ}
 use mathlib.Core.Path.{◌≡◌, refl, sym, ◌∙◌}
 use mathlib.Core.Bool.{Bool, true, false}
 use mathlib.Core.List.{List, [], ◌∷◌}
 use lib.Dec.{eqb}
+use Rattle.json_text.specs.declared.machine.State.{State}
 use Rattle.json_text.specs.Choice.{pick}
 use Rattle.json_text.specs.Machinery.Numbers.{can_end}
 use Rattle.json_text.specs.Machinery.Machine.{step_in}
 use Rattle.json_text.specs.Grammar.{Blanks, Text}
 use Rattle.json_text.specs.declared.machine.Phase.{Phase}
 use Rattle.json_text.specs.declared.machine.Phase.TheVariants as P
-use Rattle.json_text.specs.declared.machine.Turn.{Turn}
-use Rattle.json_text.specs.declared.machine.Turn.TheVariants as T
 use Rattle.json_text.proofs.Choosing.{never}
 use Rattle.json_text.proofs.Stacks.{Bracket, code, not-one}
 use Rattle.json_text.proofs.Accepting.{runs, accepts}
@@ -42,12 +42,12 @@ pub remains : (t : List ℕ) (p : Phase) (ks : List Bracket) → Fits p ks → a
 remains [] p ks f h = at-end p ks h
 remains (b ∷ t) p ks f h = go (step_in p (code ks) b) refl h (remains t)
   where
-    go : (v : Turn) → step_in p (code ks) b ≡ v → runs (accepts t) v ≡ true
+    go : (v : Option State) → step_in p (code ks) b ≡ v → runs (accepts t) v ≡ true
         → ((q : Phase) (ls : List Bracket) → Fits q ls → accepts t q (code ls) ≡ true → Rest q ls t) → Rest p ks (b ∷ t)
-    go (T.Next s) e h ih =
+    go (Some s) e h ih =
         let x = steps b s p ks f e in
         x.back t (ih x.phase x.stack x.fits (rw x.same at h))
-    go T.Fails e h ih = never (cc)
+    go None e h ih = never (cc)
 
 pub sound : (t : List ℕ) → accepts t P.Value 1 ≡ true → Text t
 sound t h = let x = remains t P.Value [] tt h in record { behind = x.0; value_first = x.1; blanks_then = x.2 }

@@ -1,4 +1,5 @@
 -- One step of the machine, seen from the grammar: where it leads, and that what may come there may come here behind the byte.
+use Rattle.std.proofs.Common.{Option, Some}
 use Prim.Native.Nat.{ℕ, suc, ◌<◌}
 use mathlib.Core.Path.{◌≡◌, refl, sym, ◌∙◌}
 use mathlib.Core.Bool.{Bool, true, false}
@@ -28,8 +29,6 @@ use Rattle.json_text.specs.declared.machine.Role.TheVariants as R
 use Rattle.json_text.specs.declared.machine.Phase.{Phase}
 use Rattle.json_text.specs.declared.machine.Phase.TheVariants as P
 use Rattle.json_text.specs.declared.machine.State.{State}
-use Rattle.json_text.specs.declared.machine.Turn.{Turn}
-use Rattle.json_text.specs.declared.machine.Turn.TheVariants as T
 use Rattle.json_text.proofs.Choosing.{never, choose}
 use Rattle.json_text.proofs.Stacks.{Bracket, code, half, is-full}
 use Rattle.json_text.proofs.Stacks.Bracket.{list, object}
@@ -49,7 +48,7 @@ pub record Stepped (p : Phase) (ks : List Bracket) (b : ℕ) (s : State) : Type 
 
 -- a step to a phase and a stack
 leads : (p : Phase) (ks : List Bracket) (b : ℕ) (s : State) (q : Phase) (ls : List Bracket) → Fits q ls
-    → ((t : List ℕ) → Rest q ls t → Rest p ks (b ∷ t)) → T.Next (at q ls) ≡ T.Next s → Stepped p ks b s
+    → ((t : List ℕ) → Rest q ls t → Rest p ks (b ∷ t)) → Some (at q ls) ≡ Some s → Stepped p ks b s
 leads p ks b s q ls f k e = record { phase = q; stack = ls; same = cc; fits = f; back = k }
 
 -- a blank in front of a part
@@ -74,11 +73,11 @@ from p q ks b s k x =
     record { phase = x.phase; stack = x.stack; same = x.same; fits = x.fits; back = λ t y. k t (x.back t y) }
 
 module _ (b : ℕ) (s : State) where
-  Is : Turn → Type 0
-  Is v = v ≡ T.Next s
+  Is : Option State → Type 0
+  Is v = v ≡ Some s
 
   -- behind a value
-  after-steps : (ks : List Bracket) → after_step (code ks) b ≡ T.Next s → Stepped P.After ks b s
+  after-steps : (ks : List Bracket) → after_step (code ks) b ≡ Some s → Stepped P.After ks b s
   unfolding Is
   after-steps [] h =
       choose Is (is_blank b) _ _ (λ e. leads P.After [] b s P.After [] tt (λ t. blank-closes [] b t e)) (λ e h. never (cc)) h
@@ -103,17 +102,17 @@ module _ (b : ℕ) (s : State) where
       (λ e h. never (cc))))
       (sym (after-object ks b) ∙ h)
 
-  number-steps : (n : Numeral) (ks : List Bracket) → step_in (P.Number n) (code ks) b ≡ T.Next s → Stepped (P.Number n) ks b s
+  number-steps : (n : Numeral) (ks : List Bracket) → step_in (P.Number n) (code ks) b ≡ Some s → Stepped (P.Number n) ks b s
   number-steps n ks = go (numeral_step n b) refl
     where
-      go : (c : Counted) → numeral_step n b ≡ c → counted (code ks) b c ≡ T.Next s → Stepped (P.Number n) ks b s
+      go : (c : Counted) → numeral_step n b ≡ c → counted (code ks) b c ≡ Some s → Stepped (P.Number n) ks b s
       go (C.Goes m) e h =
           leads (P.Number n) ks b s (P.Number m) ks tt (λ t x. (x.0, number-back n b t x.0 m e x.1, x.2)) h
       go C.Ends e h =
           from P.After (P.Number n) ks b s (λ t x. (b ∷ t, number-whole n (b ∷ t) (number-ends n b e), x)) (after-steps ks h)
       go C.Fails e h = never (cc)
 
-  value-steps : (ks : List Bracket) → value_step (code ks) b ≡ T.Next s → Stepped P.Value ks b s
+  value-steps : (ks : List Bracket) → value_step (code ks) b ≡ Some s → Stepped P.Value ks b s
   unfolding Is
   value-steps ks h =
       choose Is (is_blank b) _ _
@@ -142,7 +141,7 @@ module _ (b : ℕ) (s : State) where
       (λ e h. from (P.Number N.Minus) P.Value ks b s (λ t x. (x.0, Reads.number x.1, x.2)) (number-steps N.Minus ks h)))))))))
       h
 
-  element-steps : (ks : List Bracket) → InList ks → step_in P.FirstElement (code ks) b ≡ T.Next s → Stepped P.FirstElement ks b s
+  element-steps : (ks : List Bracket) → InList ks → step_in P.FirstElement (code ks) b ≡ Some s → Stepped P.FirstElement ks b s
   unfolding Is
   element-steps [] f h = absurd f
   element-steps (object ∷ ks) f h = absurd f
@@ -155,7 +154,7 @@ module _ (b : ℕ) (s : State) where
       (λ t x. (x.2.0, Reads.first_element x.1 x.2.1, x.2.2)) (value-steps (list ∷ ks) h)))
       h
 
-  name-steps : (ks : List Bracket) → InObject ks → step_in P.Member (code ks) b ≡ T.Next s → Stepped P.Member ks b s
+  name-steps : (ks : List Bracket) → InObject ks → step_in P.Member (code ks) b ≡ Some s → Stepped P.Member ks b s
   unfolding Is
   name-steps [] f h = absurd f
   name-steps (list ∷ ks) f h = absurd f
@@ -168,7 +167,7 @@ module _ (b : ℕ) (s : State) where
       (λ e h. never (cc)))
       h
 
-  member-steps : (ks : List Bracket) → InObject ks → step_in P.FirstMember (code ks) b ≡ T.Next s → Stepped P.FirstMember ks b s
+  member-steps : (ks : List Bracket) → InObject ks → step_in P.FirstMember (code ks) b ≡ Some s → Stepped P.FirstMember ks b s
   unfolding Is
   member-steps [] f h = absurd f
   member-steps (list ∷ ks) f h = absurd f
@@ -181,7 +180,7 @@ module _ (b : ℕ) (s : State) where
       (λ t x. (x.0, Reads.first_member x.1, x.2)) (name-steps (object ∷ ks) tt h)))
       h
 
-  colon-steps : (ks : List Bracket) → InObject ks → step_in P.Colon (code ks) b ≡ T.Next s → Stepped P.Colon ks b s
+  colon-steps : (ks : List Bracket) → InObject ks → step_in P.Colon (code ks) b ≡ Some s → Stepped P.Colon ks b s
   unfolding Is
   colon-steps [] f h = absurd f
   colon-steps (list ∷ ks) f h = absurd f
@@ -194,36 +193,36 @@ module _ (b : ℕ) (s : State) where
       (λ e h. never (cc)))
       h
 
-  text-steps : (role : Role) (i : Inside) (ks : List Bracket) → FitsRole role ks → step_in (P.Text role i) (code ks) b ≡ T.Next s
+  text-steps : (role : Role) (i : Inside) (ks : List Bracket) → FitsRole role ks → step_in (P.Text role i) (code ks) b ≡ Some s
       → Stepped (P.Text role i) ks b s
   text-steps role i ks f = go (inside_step i b) refl
     where
-      closed : (role : Role) → FitsRole role ks → inside_step i b ≡ W.Closes → goes (behind_role role) (code ks) ≡ T.Next s
+      closed : (role : Role) → FitsRole role ks → inside_step i b ≡ W.Closes → goes (behind_role role) (code ks) ≡ Some s
           → Stepped (P.Text role i) ks b s
       closed R.Name f e = leads (P.Text R.Name i) ks b s P.Colon ks f (λ t x. (t, inside-closes i b t e, x))
       closed R.Content f e = leads (P.Text R.Content i) ks b s P.After ks tt (λ t x. (t, inside-closes i b t e, x))
 
-      go : (v : Within) → inside_step i b ≡ v → in_text (code ks) role v ≡ T.Next s → Stepped (P.Text role i) ks b s
+      go : (v : Within) → inside_step i b ≡ v → in_text (code ks) role v ≡ Some s → Stepped (P.Text role i) ks b s
       go (W.Goes j) e h =
           leads (P.Text role i) ks b s (P.Text role j) ks f (λ t x. (x.0, inside_back i b t x.0 j e x.1, x.2)) h
       go W.Closes e h = closed role f e h
       go W.Fails e h = never (cc)
 
   -- a letter that is due
-  spells : (d e : Due) (ks : List Bracket) → eqb b (due_byte d) ≡ true → letters d ≡ due_byte d ∷ letters e → T.Next (at (P.Word e) ks) ≡ T.Next s
+  spells : (d e : Due) (ks : List Bracket) → eqb b (due_byte d) ≡ true → letters d ≡ due_byte d ∷ letters e → Some (at (P.Word e) ks) ≡ Some s
       → Stepped (P.Word d) ks b s
   spells d e ks q l =
       leads (P.Word d) ks b s (P.Word e) ks tt (λ t x. (x.0, rw (eqb-true b (due_byte d) q, x.1, l), x.2))
 
-  spells-last : (d : Due) (ks : List Bracket) → eqb b (due_byte d) ≡ true → letters d ≡ due_byte d ∷ [] → T.Next (at P.After ks) ≡ T.Next s
+  spells-last : (d : Due) (ks : List Bracket) → eqb b (due_byte d) ≡ true → letters d ≡ due_byte d ∷ [] → Some (at P.After ks) ≡ Some s
       → Stepped (P.Word d) ks b s
   spells-last d ks q l = leads (P.Word d) ks b s P.After ks tt (λ t x. (t, rw (eqb-true b (due_byte d) q, l), x))
 
-  word-steps : (d : Due) (ks : List Bracket) → step_in (P.Word d) (code ks) b ≡ T.Next s → Stepped (P.Word d) ks b s
+  word-steps : (d : Due) (ks : List Bracket) → step_in (P.Word d) (code ks) b ≡ Some s → Stepped (P.Word d) ks b s
   unfolding Is
   word-steps d ks h = choose Is (eqb b (due_byte d)) _ _ (go d) (λ e h. never (cc)) h
     where
-      go : (d : Due) → eqb b (due_byte d) ≡ true → spelled (code ks) (due_next d) ≡ T.Next s → Stepped (P.Word d) ks b s
+      go : (d : Due) → eqb b (due_byte d) ≡ true → spelled (code ks) (due_next d) ≡ Some s → Stepped (P.Word d) ks b s
       go D.Rue e h = spells D.Rue D.Ue ks e refl h
       go D.Ue e h = spells D.Ue D.E ks e refl h
       go D.E e h = spells-last D.E ks e refl h
@@ -234,7 +233,7 @@ module _ (b : ℕ) (s : State) where
       go D.Ll e h = spells D.Ll D.L ks e refl h
       go D.L e h = spells-last D.L ks e refl h
 
-  pub steps : (p : Phase) (ks : List Bracket) → Fits p ks → step_in p (code ks) b ≡ T.Next s → Stepped p ks b s
+  pub steps : (p : Phase) (ks : List Bracket) → Fits p ks → step_in p (code ks) b ≡ Some s → Stepped p ks b s
   steps P.Value ks f h = value-steps ks h
   steps P.FirstElement ks f h = element-steps ks f h
   steps P.FirstMember ks f h = member-steps ks f h

@@ -1,4 +1,5 @@
 -- The tokens that the machine meets in a text are those of its tree.
+use Rattle.std.proofs.Common.{Some, None}
 use Prim.Native.Nat.{ℕ, suc}
 use mathlib.Core.Path.{◌≡◌, refl, ◌∙◌, ap}
 use mathlib.Core.Bool.{Bool, true, false, ◌||◌}
@@ -48,20 +49,20 @@ characters (Characters.four {a = a} e f g x c) role w = rw (is-four a e, f, g, x
 characters (Characters.f4 e f g c) role w = rw (e, f, g) (characters c role w)
 
 -- Numbers: only a closing bracket is a token there
-quiet : (b : ℕ) → (b ≡ 0x5D → ⊥) → (b ≡ 0x7D → ⊥) → (n : Numeral) → event_of (P.Number n) b ≡ E.Nothing
+quiet : (b : ℕ) → (b ≡ 0x5D → ⊥) → (b ≡ 0x7D → ⊥) → (n : Numeral) → event_of (P.Number n) b ≡ None
 quiet b x y n = rw (ne_eqb b 0x5D x, ne_eqb b 0x7D y)
 
-digit-quiet : (b : ℕ) → is_digit b ≡ true → (n : Numeral) → event_of (P.Number n) b ≡ E.Nothing
+digit-quiet : (b : ℕ) → is_digit b ≡ true → (n : Numeral) → event_of (P.Number n) b ≡ None
 digit-quiet b e n = let h = ranged 0x30 0x39 b e in quiet b (omega arith) (omega arith) n
 
-power-quiet : (b : ℕ) → is_exponent b ≡ true → (n : Numeral) → event_of (P.Number n) b ≡ E.Nothing
+power-quiet : (b : ℕ) → is_exponent b ≡ true → (n : Numeral) → event_of (P.Number n) b ≡ None
 power-quiet b e n =
     rw (not-exponent (λ x. eqb x 0x5D) refl refl b e, not-exponent (λ x. eqb x 0x7D) refl refl b e)
 
-sign-quiet : (b : ℕ) → is_sign b ≡ true → (n : Numeral) → event_of (P.Number n) b ≡ E.Nothing
+sign-quiet : (b : ℕ) → is_sign b ≡ true → (n : Numeral) → event_of (P.Number n) b ≡ None
 sign-quiet b e n = go (eqb b 0x2B) refl (eqb b 0x2D) refl e
   where
-    go : (x : Bool) → eqb b 0x2B ≡ x → (y : Bool) → eqb b 0x2D ≡ y → (x || y) ≡ true → event_of (P.Number n) b ≡ E.Nothing
+    go : (x : Bool) → eqb b 0x2B ≡ x → (y : Bool) → eqb b 0x2D ≡ y → (x || y) ≡ true → event_of (P.Number n) b ≡ None
     go true x y z e = rw (eqb-true b 0x2B x)
     go false x true z e = rw (eqb-true b 0x2D z)
     go false x false z e = never (cc)
@@ -119,7 +120,7 @@ fraction-from (Fraction.point (SomeDigits.digits {a = a} d ds)) p w h =
     let t = digits-stay part ds w ∙ (power-from p w h).2 in
     (rw (digit-quiet a d N.Point, d) t, rw (digit-quiet a d N.Point, d) t)
 
-positive-event : (a : ℕ) → within 0x31 0x39 a ≡ true → event_of P.Value a ≡ E.Other
+positive-event : (a : ℕ) → within 0x31 0x39 a ≡ true → event_of P.Value a ≡ Some E.Other
 positive-event a e =
     let h = ranged 0x31 0x39 a e in
     rw (

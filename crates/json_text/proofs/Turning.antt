@@ -1,4 +1,5 @@
 -- The reader's loop: a byte that is taken, a byte that fails, and the end of the text.
+use Rattle.std.proofs.Common.{Some, None}
 use Prim.Native.Nat.{ℕ, ◌+◌, ◌≤◌, ◌<◌}
 use mathlib.Core.Path.{◌≡◌}
 use mathlib.Core.List.{List}
@@ -7,16 +8,14 @@ use Rattle.json_text.specs.Choice.{pick}
 use Rattle.json_text.specs.Machinery.Machine.{step_of, is_ended}
 use Rattle.json_text.specs.Machinery.Reading.{fault_from}
 use Rattle.json_text.specs.declared.machine.State.{State}
-use Rattle.json_text.specs.declared.machine.Turn.TheVariants as T
-use Rattle.json_text.specs.declared.reader.Fault.TheVariants as F
 use Rattle.json_text.proofs.Comparing.{left}
 
-pub taken : (t : List ℕ) (at : ℕ) (s next : State) → at < length t → step_of s (get_or t at 0) ≡ T.Next next
+pub taken : (t : List ℕ) (at : ℕ) (s next : State) → at < length t → step_of s (get_or t at 0) ≡ Some next
     → fault_from (drop at t) at s ≡ fault_from (drop (at + 1) t) (at + 1) next
 taken t at s next h e = rw (left t at h, e)
 
-pub fails : (t : List ℕ) (at : ℕ) (s : State) → at < length t → step_of s (get_or t at 0) ≡ T.Fails → fault_from (drop at t) at s ≡ F.At at
+pub fails : (t : List ℕ) (at : ℕ) (s : State) → at < length t → step_of s (get_or t at 0) ≡ None → fault_from (drop at t) at s ≡ Some at
 fails t at s h e = rw (left t at h, e)
 
-pub ends : (t : List ℕ) (at : ℕ) (s : State) → length t ≤ at → fault_from (drop at t) at s ≡ pick (is_ended s) F.Nothing (F.At at)
+pub ends : (t : List ℕ) (at : ℕ) (s : State) → length t ≤ at → fault_from (drop at t) at s ≡ pick (is_ended s) None (Some at)
 ends t at s h = rw (drop_of_length-le t h)

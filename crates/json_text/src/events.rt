@@ -5,9 +5,8 @@ ghost use Rattle.json_text.specs.Machinery.Events.{value_event, element_event, m
 use crate::bytes::is_blank;
 use crate::machine::Phase;
 
-#[derive(Clone, Copy)]
+#[derive(Clone, Copy, Debug, PartialEq, Eq)]
 pub enum Event {
-    Nothing,
     // A string begins: a member's name, a value.
     Name,
     Text,
@@ -19,59 +18,59 @@ pub enum Event {
     CloseObject,
 }
 
-fn value_event(byte: u8) -> Event
+fn value_event(byte: u8) -> Option<Event>
     ensures { result ≡ value_event byte }
 {
     if is_blank(byte) {
-        return Event::Nothing;
+        return None;
     }
     if byte == 0x22 {
-        return Event::Text;
+        return Some(Event::Text);
     }
     if byte == 0x5B {
-        return Event::OpenList;
+        return Some(Event::OpenList);
     }
     if byte == 0x7B {
-        return Event::OpenObject;
+        return Some(Event::OpenObject);
     }
-    Event::Other
+    Some(Event::Other)
 }
 
-fn element_event(byte: u8) -> Event
+fn element_event(byte: u8) -> Option<Event>
     ensures { result ≡ element_event byte }
 {
     if byte == 0x5D {
-        return Event::CloseList;
+        return Some(Event::CloseList);
     }
     value_event(byte)
 }
 
-fn member_event(byte: u8) -> Event
+fn member_event(byte: u8) -> Option<Event>
     ensures { result ≡ member_event byte }
 {
     if byte == 0x22 {
-        return Event::Name;
+        return Some(Event::Name);
     }
     if byte == 0x7D {
-        return Event::CloseObject;
+        return Some(Event::CloseObject);
     }
-    Event::Nothing
+    None
 }
 
-fn close_event(byte: u8) -> Event
+fn close_event(byte: u8) -> Option<Event>
     ensures { result ≡ close_event byte }
 {
     if byte == 0x5D {
-        return Event::CloseList;
+        return Some(Event::CloseList);
     }
     if byte == 0x7D {
-        return Event::CloseObject;
+        return Some(Event::CloseObject);
     }
-    Event::Nothing
+    None
 }
 
-// What a byte begins or ends in a phase.
-pub fn event_of(phase: Phase, byte: u8) -> Event
+// What a byte begins or ends in a phase, if anything.
+pub fn event_of(phase: Phase, byte: u8) -> Option<Event>
     ensures { result ≡ event_of phase byte }
 {
     match phase {
@@ -79,10 +78,10 @@ pub fn event_of(phase: Phase, byte: u8) -> Event
         Phase::FirstElement => element_event(byte),
         Phase::FirstMember => member_event(byte),
         Phase::Member => member_event(byte),
-        Phase::Colon => Event::Nothing,
+        Phase::Colon => None,
         Phase::After => close_event(byte),
-        Phase::Text(_, _) => Event::Nothing,
+        Phase::Text(_, _) => None,
         Phase::Number(_) => close_event(byte),
-        Phase::Word(_) => Event::Nothing,
+        Phase::Word(_) => None,
     }
 }

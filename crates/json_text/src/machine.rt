@@ -5,17 +5,17 @@ ghost use Rattle.json_text.specs.Machinery.Machine.{start_state, goes, opened, b
 use crate::bytes::is_blank;
 use crate::numbers::{Counted, Numeral, can_end, numeral_step};
 use crate::strings::{Inside, Within, inside_step};
-use crate::words::{Due, Spelled, due_byte, due_next};
+use crate::words::{Due, due_byte, due_next};
 
 // What a string is: a member's name or a value.
-#[derive(Clone, Copy)]
+#[derive(Clone, Copy, Debug, PartialEq, Eq)]
 pub enum Role {
     Name,
     Content,
 }
 
 // What was read last, and so what is due.
-#[derive(Clone, Copy)]
+#[derive(Clone, Copy, Debug, PartialEq, Eq)]
 pub enum Phase {
     // At the start, behind a colon, behind a comma in a list: a value.
     Value,
@@ -36,17 +36,10 @@ pub enum Phase {
 }
 
 // The open brackets are the binary digits of `stack` behind a first 1, the innermost last: 1 for an object, 0 for a list.
-#[derive(Clone, Copy)]
+#[derive(Clone, Copy, Debug, PartialEq, Eq)]
 pub struct State {
     pub phase: Phase,
     pub stack: u16,
-}
-
-// What a byte leads to.
-#[derive(Clone, Copy)]
-pub enum Turn {
-    Next(State),
-    Fails,
 }
 
 // Nothing is read yet.
@@ -59,40 +52,40 @@ pub fn start() -> State
     }
 }
 
-fn go(phase: Phase, stack: u16) -> Turn
+fn go(phase: Phase, stack: u16) -> Option<State>
     ensures { result ≡ goes phase stack }
 {
-    Turn::Next(State { phase, stack })
+    Some(State { phase, stack })
 }
 
 // A list or an object opens, unless eight are open.
-fn open_list(stack: u16) -> Turn
+fn open_list(stack: u16) -> Option<State>
     ensures { result ≡ opened stack 0 Phase.FirstElement }
 {
     if stack < 256 {
         return go(Phase::FirstElement, stack * 2);
     }
-    Turn::Fails
+    None
 }
 
-fn open_object(stack: u16) -> Turn
+fn open_object(stack: u16) -> Option<State>
     ensures { result ≡ opened stack 1 Phase.FirstMember }
 {
     if stack < 256 {
         return go(Phase::FirstMember, stack * 2 + 1);
     }
-    Turn::Fails
+    None
 }
 
 // Behind a value: a comma or the closing bracket.
-fn after_step(stack: u16, byte: u8) -> Turn
+fn after_step(stack: u16, byte: u8) -> Option<State>
     ensures { result ≡ after_step stack byte }
 {
     if is_blank(byte) {
         return go(Phase::After, stack);
     }
     if stack == 1 {
-        return Turn::Fails;
+        return None;
     }
     if stack % 2 == 1 {
         if byte == 0x2C {
@@ -101,7 +94,7 @@ fn after_step(stack: u16, byte: u8) -> Turn
         if byte == 0x7D {
             return go(Phase::After, stack / 2);
         }
-        return Turn::Fails;
+        return None;
     }
     if byte == 0x2C {
         return go(Phase::Value, stack);
@@ -109,21 +102,21 @@ fn after_step(stack: u16, byte: u8) -> Turn
     if byte == 0x5D {
         return go(Phase::After, stack / 2);
     }
-    Turn::Fails
+    None
 }
 
-fn number_step(stack: u16, numeral: Numeral, byte: u8) -> Turn
+fn number_step(stack: u16, numeral: Numeral, byte: u8) -> Option<State>
     ensures { result ≡ number_step stack numeral byte }
 {
     match numeral_step(numeral, byte) {
         Counted::Goes(next) => go(Phase::Number(next), stack),
         Counted::Ends => after_step(stack, byte),
-        Counted::Fails => Turn::Fails,
+        Counted::Fails => None,
     }
 }
 
 // A value that is neither a string nor a bracket.
-fn scalar_step(stack: u16, byte: u8) -> Turn
+fn scalar_step(stack: u16, byte: u8) -> Option<State>
     ensures { result ≡ scalar_step stack byte }
 {
     if byte == 0x74 {
@@ -141,7 +134,7 @@ fn scalar_step(stack: u16, byte: u8) -> Turn
     number_step(stack, Numeral::Minus, byte)
 }
 
-fn value_step(stack: u16, byte: u8) -> Turn
+fn value_step(stack: u16, byte: u8) -> Option<State>
     ensures { result ≡ value_step stack byte }
 {
     if is_blank(byte) {
@@ -159,7 +152,7 @@ fn value_step(stack: u16, byte: u8) -> Turn
     scalar_step(stack, byte)
 }
 
-fn element_step(stack: u16, byte: u8) -> Turn
+fn element_step(stack: u16, byte: u8) -> Option<State>
     ensures { result ≡ element_step stack byte }
 {
     if is_blank(byte) {
@@ -171,7 +164,7 @@ fn element_step(stack: u16, byte: u8) -> Turn
     value_step(stack, byte)
 }
 
-fn name_step(stack: u16, byte: u8) -> Turn
+fn name_step(stack: u16, byte: u8) -> Option<State>
     ensures { result ≡ name_step stack byte }
 {
     if is_blank(byte) {
@@ -180,10 +173,10 @@ fn name_step(stack: u16, byte: u8) -> Turn
     if byte == 0x22 {
         return go(Phase::Text(Role::Name, Inside::Plain), stack);
     }
-    Turn::Fails
+    None
 }
 
-fn member_step(stack: u16, byte: u8) -> Turn
+fn member_step(stack: u16, byte: u8) -> Option<State>
     ensures { result ≡ member_step stack byte }
 {
     if is_blank(byte) {
@@ -195,7 +188,7 @@ fn member_step(stack: u16, byte: u8) -> Turn
     name_step(stack, byte)
 }
 
-fn colon_step(stack: u16, byte: u8) -> Turn
+fn colon_step(stack: u16, byte: u8) -> Option<State>
     ensures { result ≡ colon_step stack byte }
 {
     if is_blank(byte) {
@@ -204,7 +197,7 @@ fn colon_step(stack: u16, byte: u8) -> Turn
     if byte == 0x3A {
         return go(Phase::Value, stack);
     }
-    Turn::Fails
+    None
 }
 
 fn behind_role(role: Role) -> Phase
@@ -216,31 +209,31 @@ fn behind_role(role: Role) -> Phase
     }
 }
 
-fn text_step(stack: u16, role: Role, inside: Inside, byte: u8) -> Turn
+fn text_step(stack: u16, role: Role, inside: Inside, byte: u8) -> Option<State>
     ensures { result ≡ text_step stack role inside byte }
 {
     match inside_step(inside, byte) {
         Within::Goes(next) => go(Phase::Text(role, next), stack),
         Within::Closes => go(behind_role(role), stack),
-        Within::Fails => Turn::Fails,
+        Within::Fails => None,
     }
 }
 
-fn word_step(stack: u16, due: Due, byte: u8) -> Turn
+fn word_step(stack: u16, due: Due, byte: u8) -> Option<State>
     ensures { result ≡ word_step stack due byte }
 {
     if byte == due_byte(due) {
         match due_next(due) {
-            Spelled::More(next) => go(Phase::Word(next), stack),
-            Spelled::Whole => go(Phase::After, stack),
+            Some(next) => go(Phase::Word(next), stack),
+            None => go(Phase::After, stack),
         }
     } else {
-        Turn::Fails
+        None
     }
 }
 
-// One byte.
-pub fn step(state: State, byte: u8) -> Turn
+// One byte: what it leads to, if it may come there.
+pub fn step(state: State, byte: u8) -> Option<State>
     ensures { result ≡ step_of state byte }
 {
     let phase = state.phase;

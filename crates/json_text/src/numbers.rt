@@ -5,7 +5,7 @@ ghost use Rattle.json_text.specs.Machinery.Numbers.{counted_if, minus_step, tail
 use crate::bytes::{is_between, is_digit, is_exponent, is_sign};
 
 // What was read last.
-#[derive(Clone, Copy)]
+#[derive(Clone, Copy, Debug, PartialEq, Eq)]
 pub enum Numeral {
     Minus,
     // A single zero, which no digit follows.
@@ -18,7 +18,7 @@ pub enum Numeral {
     Power,
 }
 
-#[derive(Clone, Copy)]
+#[derive(Clone, Copy, Debug, PartialEq, Eq)]
 pub enum Counted {
     Goes(Numeral),
     // The number has ended before this byte.

@@ -4,11 +4,11 @@ ghost use Rattle.json_text.specs.Bytes.{hex_of};
 ghost use Rattle.json_text.specs.Choice.{same_bytes};
 ghost use Rattle.json_text.specs.Machinery.Pieces.{escape_of, piece_of, content_of};
 
-#[derive(Clone, Copy)]
-pub enum Piece {
-    Closed,
-    // The byte, and how many bytes of the text it takes.
-    Byte(u8, usize),
+// A byte of a string, and how many bytes of the text it takes.
+#[derive(Clone, Copy, Debug, PartialEq, Eq)]
+pub struct Piece {
+    pub byte: u8,
+    pub wide: usize,
 }
 
 // The byte so far behind a place, 0 past the end.
@@ -35,33 +35,37 @@ fn hex_of(byte: u8) -> u8
 }
 
 // What stands behind a backslash.
-fn escape_at(text: &[u8], at: usize) -> Piece
+fn escape_at(text: &[u8], at: usize) -> Option<Piece>
     ensures { result ≡ escape_of (drop at text.now) }
 {
     let letter = byte_behind(text, at, 1);
     if letter == 0x75 {
         let high = byte_behind(text, at, 4);
         let low = byte_behind(text, at, 5);
-        return Piece::Byte(high % 8 * 16 + hex_of(low), 6);
+        Some(Piece {
+            byte: high % 8 * 16 + hex_of(low),
+            wide: 6,
+        })
+    } else {
+        Some(Piece {
+            byte: letter,
+            wide: 2,
+        })
     }
-    Piece::Byte(letter, 2)
 }
 
-// The byte of a string at a place inside it.
-pub fn piece_at(text: &[u8], at: usize) -> Piece
+// The byte of a string at a place inside it, if the string does not end there.
+pub fn piece_at(text: &[u8], at: usize) -> Option<Piece>
     ensures { result ≡ piece_of (drop at text.now) }
 {
     if text.len() <= at {
-        return Piece::Closed;
+        return None;
     }
-    let byte = text[at];
-    if byte == 0x22 {
-        return Piece::Closed;
+    match text[at] {
+        b'"' => None,
+        b'\\' => escape_at(text, at),
+        byte => Some(Piece { byte, wide: 1 }),
     }
-    if byte == 0x5C {
-        return escape_at(text, at);
-    }
-    Piece::Byte(byte, 1)
 }
 
 // A place further on, at most the text's end.
@@ -82,24 +86,14 @@ pub fn string_is(text: &[u8], from: usize, name: &[u8]) -> bool
     ensures { result ≡ same_bytes (content_of (drop from text.now)) name.now }
 {
     let mut at = from;
-    let mut i: usize = 0;
-    while i < name.len() {
-        match piece_at(text, at) {
-            Piece::Closed => {
-                return false;
-            }
-            Piece::Byte(byte, wide) => {
-                if byte == name[i] {
-                    at = advance(text, at, wide);
-                    i += 1;
-                } else {
-                    return false;
-                }
-            }
+    for wanted in name {
+        let Some(piece) = piece_at(text, at) else {
+            return false;
+        };
+        if piece.byte != *wanted {
+            return false;
         }
+        at = advance(text, at, piece.wide);
     }
-    match piece_at(text, at) {
-        Piece::Closed => true,
-        Piece::Byte(_, _) => false,
-    }
+    piece_at(text, at).is_none()
 }

@@ -5,7 +5,7 @@ ghost use Rattle.json_text.specs.Machinery.Strings.{taken_if, plain_step, wide_s
 use crate::bytes::{is_between, is_hex, is_plain, is_simple};
 
 // Where in a string: what was read since the last whole character.
-#[derive(Clone, Copy)]
+#[derive(Clone, Copy, Debug, PartialEq, Eq)]
 pub enum Inside {
     Plain,
     // Behind a backslash, behind \u, \u0, \u00, and behind the third digit.
@@ -24,7 +24,7 @@ pub enum Inside {
     AfterF4,
 }
 
-#[derive(Clone, Copy)]
+#[derive(Clone, Copy, Debug, PartialEq, Eq)]
 pub enum Within {
     Goes(Inside),
     Closes,

@@ -3,7 +3,7 @@ ghost use Rattle.std.specs.Prelude.{◌≡◌};
 ghost use Rattle.json_text.specs.Machinery.Words.{due_byte, due_next};
 
 // The letters that are due.
-#[derive(Clone, Copy)]
+#[derive(Clone, Copy, Debug, PartialEq, Eq)]
 pub enum Due {
     Rue,
     Ue,
@@ -14,12 +14,6 @@ pub enum Due {
     Ull,
     Ll,
     L,
-}
-
-#[derive(Clone, Copy)]
-pub enum Spelled {
-    More(Due),
-    Whole,
 }
 
 // The first of the letters that are due.
@@ -39,19 +33,19 @@ pub(crate) fn due_byte(due: Due) -> u8
     }
 }
 
-// What is due behind it.
-pub(crate) fn due_next(due: Due) -> Spelled
+// What is due behind it, if the word is not whole.
+pub(crate) fn due_next(due: Due) -> Option<Due>
     ensures { result ≡ due_next due }
 {
     match due {
-        Due::Rue => Spelled::More(Due::Ue),
-        Due::Ue => Spelled::More(Due::E),
-        Due::E => Spelled::Whole,
-        Due::Alse => Spelled::More(Due::Lse),
-        Due::Lse => Spelled::More(Due::Se),
-        Due::Se => Spelled::More(Due::E),
-        Due::Ull => Spelled::More(Due::Ll),
-        Due::Ll => Spelled::More(Due::L),
-        Due::L => Spelled::Whole,
+        Due::Rue => Some(Due::Ue),
+        Due::Ue => Some(Due::E),
+        Due::E => None,
+        Due::Alse => Some(Due::Lse),
+        Due::Lse => Some(Due::Se),
+        Due::Se => Some(Due::E),
+        Due::Ull => Some(Due::Ll),
+        Due::Ll => Some(Due::L),
+        Due::L => None,
     }
 }

@@ -1,14 +1,14 @@
 -- A text as the list of its tokens, as the machine meets them, and a tree's tokens.
+use Rattle.std.specs.Prelude.{Option, Some, None}
 use Rattle.std.specs.Prelude.{ℕ, suc, List, [], ◌∷◌, length}
 use Rattle.json_text.specs.Grammar.{Part}
 use Rattle.json_text.specs.Trees.{Shape, Tree, Made}
 use Rattle.json_text.specs.Machinery.Machine.{step_in}
 use Rattle.json_text.specs.Machinery.Pieces.{content_of}
 use Rattle.json_text.specs.Machinery.Events.{event_of}
+use Rattle.json_text.specs.declared.machine.State.{State}
 use Rattle.json_text.specs.declared.machine.Phase.{Phase}
 use Rattle.json_text.specs.declared.machine.Phase.TheVariants as P
-use Rattle.json_text.specs.declared.machine.Turn.{Turn}
-use Rattle.json_text.specs.declared.machine.Turn.TheVariants as T
 use Rattle.json_text.specs.declared.events.Event.{Event}
 use Rattle.json_text.specs.declared.events.Event.TheVariants as E
 
@@ -17,9 +17,8 @@ pub data Token : Type 0 where
   name text : ℕ → List ℕ → Token
   other open-list close-list open-object close-object : ℕ → Token
 
--- one token more, by what a byte begins or ends: the bytes left at it, the text behind it, the tokens behind it
+-- one token more, by what it begins or ends: the bytes left at it, the text behind it, the tokens behind it
 abbrev pub mark : Event → ℕ → List ℕ → List Token → List Token
-mark E.Nothing n s ts = ts
 mark E.Name n s ts = Token.name n (content_of s) ∷ ts
 mark E.Text n s ts = Token.text n (content_of s) ∷ ts
 mark E.Other n s ts = Token.other n ∷ ts
@@ -28,13 +27,18 @@ mark E.CloseList n s ts = Token.close-list n ∷ ts
 mark E.OpenObject n s ts = Token.open-object n ∷ ts
 mark E.CloseObject n s ts = Token.close-object n ∷ ts
 
-abbrev pub further : (Phase → ℕ → List Token) → Turn → List Token
-further go (T.Next s) = go s.phase s.stack
-further go T.Fails = []
+-- the tokens from a byte on, by what it begins or ends
+abbrev pub marked : Option Event → ℕ → List ℕ → List Token → List Token
+marked None n s ts = ts
+marked (Some e) n s ts = mark e n s ts
+
+abbrev pub further : (Phase → ℕ → List Token) → Option State → List Token
+further go (Some s) = go s.phase s.stack
+further go None = []
 
 abbrev pub tokens_from : List ℕ → Phase → ℕ → List Token
 tokens_from [] p w = []
-tokens_from (b ∷ s) p w = mark (event_of p b) (suc (length s)) s (further (tokens_from s) (step_in p w b))
+tokens_from (b ∷ s) p w = marked (event_of p b) (suc (length s)) s (further (tokens_from s) (step_in p w b))
 
 unfoldable pub tokens_of : List ℕ → List Token
 tokens_of t = tokens_from t P.Value 1

@@ -21,8 +21,8 @@ loop-at-preserved c =
     let l = c.loop-at in
     let text = c.args.text.now in
     let h = c.loop-at-test.true in
-    let next = c.in-Next.next in
-    let on = sym c.step.ensures ∙ c.in-Next.is in
+    let next = c.in-Some.next in
+    let on = sym c.step.ensures ∙ c.in-Some.is in
     let end = c.run_end-at.result in
     let ran = c.run_end-at.ensures in (
       inside-run text (l.at + 1) next.phase end ran (omega (arith, h)),
@@ -33,12 +33,12 @@ loop-at-preserved c =
           ∙ l.invariant.1,
     )
 
-pub returns-in-Fails : goal.returns-in-Fails
+pub returns-in_default : goal.returns-in_default
 unfolding fault_of
-returns-in-Fails c =
+returns-in_default c =
     let l = c.loop-at in
     let text = c.args.text.now in
-    sym (fails text l.at l.state c.loop-at-test.true (sym c.step.ensures ∙ c.in-Fails.is)) ∙ l.invariant.1
+    sym (fails text l.at l.state c.loop-at-test.true (sym c.step.ensures ∙ c.in_default.is)) ∙ l.invariant.1
 
 pub returns-then-is_ended : goal.returns-then-is_ended
 unfolding fault_of
@@ -48,9 +48,9 @@ returns-then-is_ended c =
     let e = ends text l.at l.state c.loop-at-test.false in
     simp (sym c.is_ended.ensures ∙ c.if-is_ended.true) at (sym e ∙ l.invariant.1)
 
-pub returns : goal.returns
+pub returns-else-is_ended : goal.returns-else-is_ended
 unfolding fault_of
-returns c =
+returns-else-is_ended c =
     let l = c.loop-at in
     let text = c.args.text.now in
     let e = ends text l.at l.state c.loop-at-test.false in
