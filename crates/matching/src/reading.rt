@@ -2,9 +2,9 @@
 ghost use Rattle.std.specs.Prelude.{◌≡◌};
 ghost use Rattle.matching.specs.Symbols.{ignores_case};
 
-// Fold: an action. Plain: a resource, StringLike, StringNotLike. Literal: StringEquals, StringNotEquals. Principal: `*` alone is
-// everyone, any other value is literal.
-#[derive(Clone, Copy)]
+/// Fold: an action. Plain: a resource, StringLike, StringNotLike. Literal: StringEquals, StringNotEquals. Principal: `*` alone is
+/// everyone, any other value is literal.
+#[derive(Clone, Copy, Debug, PartialEq, Eq)]
 pub enum Reading {
     Fold,
     Plain,
@@ -16,10 +16,5 @@ pub enum Reading {
 pub(crate) fn ignores_case(reading: Reading) -> bool
     ensures { result ≡ ignores_case reading }
 {
-    match reading {
-        Reading::Fold => true,
-        Reading::Plain => false,
-        Reading::Literal => false,
-        Reading::Principal => false,
-    }
+    matches!(reading, Reading::Fold)
 }

@@ -1,101 +1,65 @@
-// The symbols of a value, read one after the other by a cursor. Nobody else indexes a value.
-ghost use Rattle.std.specs.Prelude.{◌≡◌, take, drop};
+// The symbols of a value, read one after the other. Nobody else looks at the bytes of a value.
+ghost use Rattle.std.specs.Prelude.{◌≡◌, length};
 ghost use Rattle.matching.specs.Symbols.{is_wild};
-ghost use Rattle.matching.specs.Machinery.Cursor.{open_of, next_of, size_from};
+ghost use Rattle.matching.specs.Machinery.Codes.{symbol_codes};
+ghost use Rattle.matching.specs.Machinery.SymbolsLeft.{symbols_left};
 
 use crate::codes::{STAR, symbol_code};
 use crate::reading::{Reading, ignores_case};
 
-// The place in the table of the next symbol of a value, where the value ends, and how its bytes are read.
-#[derive(Clone, Copy)]
-pub struct Cursor {
-    pub at: usize,
-    pub end: usize,
-    pub wild: bool,
-    pub fold: bool,
-}
-
-// The code of the next symbol and the cursor behind it, or the end of the value.
-#[derive(Clone, Copy)]
-pub enum Next {
-    Symbol(u64, Cursor),
-    Done,
-}
-
-// How many of the length bytes from start are in the table.
-fn size_from(table: &[u8], start: usize, length: usize) -> usize
-    ensures { result ≡ size_from table.now start length }
-{
-    if table.len() <= start {
-        return 0;
-    }
-    if length <= table.len() - start {
-        return length;
-    }
-    table.len() - start
-}
-
-// Whether the value is `*` alone.
-fn is_everyone(table: &[u8], start: usize, length: usize) -> bool
-    ensures { result ≡ is_wild Reading.Principal (take length (drop start table.now)) }
-{
-    let size = size_from(table, start, length);
-    if size == 1 {
-        return table[start] == STAR;
-    }
-    false
+/// The codes of the symbols of a value, one after the other.
+#[derive(Clone, Copy, Debug)]
+pub struct Symbols<'a> {
+    bytes: &'a [u8],
+    wild: bool,
+    fold: bool,
 }
 
 // Whether `*` and `?` are wildcards in the value.
-fn is_wild(table: &[u8], start: usize, length: usize, reading: Reading) -> bool
-    ensures { result ≡ is_wild reading (take length (drop start table.now)) }
+fn is_wild(value: &[u8], reading: Reading) -> bool
+    ensures { result ≡ is_wild reading value.now }
 {
     match reading {
-        Reading::Fold => true,
-        Reading::Plain => true,
+        Reading::Fold | Reading::Plain => true,
         Reading::Literal => false,
-        Reading::Principal => is_everyone(table, start, length),
+        Reading::Principal => matches!(value, [STAR]),
     }
 }
 
-// The cursor in front of the value of length bytes at start, or of those of them that are in the table.
-pub fn open_value(table: &[u8], start: usize, length: usize, reading: Reading) -> Cursor
-    ensures { result ≡ open_of table.now start length reading }
+/// All symbols of a value.
+pub fn symbols_of(value: &[u8], reading: Reading) -> Symbols
+    ensures { symbols_left result ≡ symbol_codes reading value.now }
 {
-    let size = size_from(table, start, length);
-    let wild = is_wild(table, start, length, reading);
-    let fold = ignores_case(reading);
-    Cursor {
-        at: start,
-        end: start + size,
-        wild,
-        fold,
+    Symbols {
+        bytes: value,
+        wild: is_wild(value, reading),
+        fold: ignores_case(reading),
     }
 }
 
-// The next symbol of a value.
-pub fn next_symbol(table: &[u8], cursor: Cursor) -> Next
-    ensures { result ≡ next_of table.now cursor }
-{
-    let at = cursor.at;
-    let end = cursor.end;
-    let wild = cursor.wild;
-    let fold = cursor.fold;
-    if end <= at {
-        return Next::Done;
+impl<'a> Symbols<'a> {
+    // How many symbols are left.
+    #[inline(always)]
+    pub(crate) fn len(&self) -> usize
+        ensures { result ≡ length (symbols_left self.now) }
+    {
+        self.bytes.len()
     }
-    if table.len() <= at {
-        return Next::Done;
+}
+
+impl<'a> Iterator for Symbols<'a> {
+    ghost use Rattle.std.specs.Iterator.{YieldsFirst, item_count};
+
+    type Item = u64;
+
+    ghost next_gives = { YieldsFirst symbols_left };
+
+    ghost remaining = { item_count symbols_left };
+
+    #[inline(always)]
+    fn next(&mut self) -> Option<u64> {
+        let (first, others) = self.bytes.split_first()?;
+        self.bytes = others;
+        Some(symbol_code(self.wild, self.fold, *first))
     }
-    let b = table[at];
-    let code = symbol_code(wild, fold, b);
-    Next::Symbol(
-        code,
-        Cursor {
-            at: at + 1,
-            end,
-            wild,
-            fold,
-        },
-    )
 }

@@ -1,12 +1,11 @@
 -- Where no symbol follows the star, it takes any string; else the row decides.
 use Rattle.std.proofs.Common.{sym, ◌∙◌}
+use Rattle.std.proofs.lemmas.List.{nil_from_length}
+use Rattle.matching.specs.Machinery.SymbolsLeft.{symbols_left}
 use Rattle.matching.proofs.SymbolsLeft.{last-star}
 use Rattle.matching.proofs.value.star_matches.Goals as goal
 
-pub returns-in-Symbol : goal.returns-in-Symbol
-returns-in-Symbol c = c.rows_match.ensures
-
-pub returns-in-Done : goal.returns-in-Done
-returns-in-Done c =
+pub returns-then-len-eq0 : goal.returns-then-len-eq0
+returns-then-len-eq0 c =
     let a = c.args in
-    sym (last-star a.table.now a.cursor a.behind c.requires.1 (sym c.next_symbol.ensures ∙ c.in-Done.is) a.string.now)
+    rw c.if-len-eq0.true (sym (last-star a.symbols a.behind c.requires.1 (nil_from_length (symbols_left a.behind) (sym c.len.ensures ∙ c.if-len-eq0.true)) a.string.now))
