@@ -1,5 +1,6 @@
 -- What functions inside promise each other, and what the proofs are made of. None of it has to be believed.
 pub mod Both
+pub mod ReadOnce
 pub mod Contents
 pub mod Lists
 pub mod Edges

@@ -9,3 +9,4 @@ pub mod limits;
 pub mod plan;
 pub mod prints;
 pub mod runs;
+pub mod tables;

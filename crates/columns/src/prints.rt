@@ -11,11 +11,12 @@ ghost use Rattle.states.specs.Machinery.Rows.{prints_at};
 ghost use Rattle.columns.specs.Values.{values_in};
 ghost use Rattle.columns.specs.Machinery.Plan.{AddressPlans};
 ghost use Rattle.columns.specs.Machinery.Prints.{IsReached, prints_of, Prepared};
-ghost use Rattle.columns.specs.Machinery.Both.{BothRead, Narrow};
+ghost use Rattle.columns.specs.Machinery.Both.{Narrow};
 
 use crate::last_positions::{last_positions, rows_meet};
 use crate::plan::Plans;
 use crate::runs::{address_rows, text_rows};
+use crate::tables::Tables;
 use judging::rows::rows_in;
 use states::limits::CODES;
 
@@ -49,21 +50,14 @@ pub fn absent_print(first: &[u8], second: &[u8], column: usize, size: u64) -> u6
 }
 
 // The footprint of an address, by the plans of both tables.
-pub fn address_print(
-    words: &[u64],
-    first: &[u8],
-    second: &[u8],
-    plans: Plans,
-    size: u64,
-    x: u64,
-) -> u64
-    requires { BothRead first.now second.now size × AddressPlans first.now second.now words.now plans × (prints_at ≤ length words.now) }
-    ensures { result ≡ rows_word (holds 7 (number x)) (rows_of first.now ++ rows_of second.now) }
+pub fn address_print(words: &[u64], tables: Tables, plans: Plans, x: u64) -> u64
+    requires { AddressPlans tables.first.now tables.second.now words.now plans × (prints_at ≤ length words.now) }
+    ensures { result ≡ rows_word (holds 7 (number x)) (rows_of tables.entry.first.now ++ rows_of tables.entry.second.now) }
 {
     let middle = plans.middle;
     let own = address_rows(words, CODES, middle, x);
     let other = address_rows(words, middle, plans.end, x);
-    joined(own, other, size)
+    joined(own, other, tables.size)
 }
 
 // What all states of a column of strings need, by the plans of both tables.
@@ -90,22 +84,22 @@ pub fn prints_of(words: &[u64], plans: Plans) -> Prints
 pub fn state_print(
     words: &[u64],
     row: [u64; 8],
-    first: &[u8],
-    second: &[u8],
+    tables: Tables,
     column: usize,
     prints: Prints,
-    size: u64,
 ) -> u64
-    requires { BothRead first.now second.now size × Prepared first.now second.now column words.now prints × (prints_at ≤ length words.now)
-        × Narrow (rows_of first.now ++ rows_of second.now) column × IsReached (codes_of (values_in column (rows_of first.now ++ rows_of second.now))) row }
-    ensures { (s : List ℕ) → row_of (codes_of (values_in column (rows_of first.now ++ rows_of second.now))) s ≡ row → result ≡ rows_word (holds column (text s)) (rows_of first.now ++ rows_of second.now) }
+    requires { Prepared tables.first.now tables.second.now column words.now prints × (prints_at ≤ length words.now)
+        × Narrow (rows_of tables.first.now ++ rows_of tables.second.now) column
+        × IsReached (codes_of (values_in column (rows_of tables.first.now ++ rows_of tables.second.now))) row }
+    ensures { (s : List ℕ) → row_of (codes_of (values_in column (rows_of tables.entry.first.now ++ rows_of tables.entry.second.now))) s ≡ row
+        → result ≡ rows_word (holds column (text s)) (rows_of tables.entry.first.now ++ rows_of tables.entry.second.now) }
 {
     let ends = prints.ends;
     if rows_meet(row, ends) {
         let middle = prints.plans.middle;
         let own = text_rows(words, CODES, middle, row);
         let other = text_rows(words, middle, prints.plans.end, row);
-        return joined(own, other, size);
+        return joined(own, other, tables.size);
     }
-    joined(prints.own, prints.other, size)
+    joined(prints.own, prints.other, tables.size)
 }
