@@ -9,8 +9,8 @@ use lib.Dec.{ltb}
 use lib.ListN.{length, take, drop}
 use borrow.Author.Tests.{ltb-true, ltb-false, eqb-true}
 use Rattle.stored.specs.Choice.{pick}
-use Rattle.stored.specs.Machine.{fresh_state, is_ended, takes_kind, column_phase, counted_state, opened_state, listed_state, filled_state, ended_state, kind_of_item}
-use Rattle.stored.specs.Reading.{finish_of, step_at, after_step, read_from, reading}
+use Rattle.stored.specs.Machine.{Turn as T, fresh_state, is_ended, takes_kind, column_phase, counted_state, opened_state, listed_state, filled_state, ended_state, kind_of_item}
+use Rattle.stored.specs.Reading.{Step as S, ReadAnswer as A, Step, finish_of, step_at, after_step, read_from, reading}
 use Rattle.stored.specs.Entries.{Entry, entry_of, item_of, bytes_of, entries_from, entries_of}
 use Rattle.stored.specs.Machinery.Following.{admit, Follows, Accepted}
 use Rattle.stored.specs.Entries.Entry.{start, statement, column, condition, network, value, end}
@@ -22,10 +22,6 @@ use Rattle.stored.specs.declared.records.Kind.TheVariants as K
 use Rattle.stored.specs.declared.machine.Phase.{Phase}
 use Rattle.stored.specs.declared.machine.Phase.TheVariants as P
 use Rattle.stored.specs.declared.machine.State.{State}
-use Rattle.stored.specs.declared.machine.Turn.TheVariants as T
-use Rattle.stored.specs.declared.reader.ReadAnswer.TheVariants as A
-use Rattle.stored.specs.declared.reader.Step.{Step}
-use Rattle.stored.specs.declared.reader.Step.TheVariants as S
 use Rattle.stored.proofs.Choosing.{never}
 use Rattle.stored.proofs.Walking.{past, goes_on_lem, ends-cut, kind-agrees}
 use Rattle.stored.proofs.Steps.{Taken, taken, goes-inside}

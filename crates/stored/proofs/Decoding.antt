@@ -1,4 +1,5 @@
 -- What the bytes of a record say: which kind a byte is, which item a body holds, and that the item's record is these bytes again.
+use Rattle.std.specs.Prelude.{Option, Some, None}
 use Prim.Native.Nat.{ℕ, zero, suc, ◌+◌, ◌-◌, ◌/◌, ◌%◌, ◌≤◌, ◌<◌}
 use mathlib.Core.Path.{◌≡◌, refl, sym, ap, subst}
 use mathlib.Core.Bool.{◌&&◌}
@@ -13,16 +14,12 @@ use Rattle.stored.specs.Records.{kind_of, size_of, decode_of, statement_of, colu
 use Rattle.stored.specs.Machine.{kind_of_item}
 use Rattle.stored.specs.Writing.{record_of}
 use Rattle.stored.specs.Entries.{Bytes}
+use Rattle.stored.specs.declared.items.Key.{Key}
+use Rattle.stored.specs.declared.items.Operator.{Operator}
 use Rattle.stored.specs.declared.items.Item.{Item}
 use Rattle.stored.specs.declared.items.Item.TheVariants as I
-use Rattle.stored.specs.declared.items.FoundKey.{FoundKey}
-use Rattle.stored.specs.declared.items.FoundKey.TheVariants as FK
-use Rattle.stored.specs.declared.operators.FoundOperator.{FoundOperator}
-use Rattle.stored.specs.declared.operators.FoundOperator.TheVariants as FO
 use Rattle.stored.specs.declared.records.Kind.{Kind}
 use Rattle.stored.specs.declared.records.Kind.TheVariants as K
-use Rattle.stored.specs.declared.records.Decoded.{Decoded}
-use Rattle.stored.specs.declared.records.Decoded.TheVariants as D
 use Rattle.stored.proofs.Choosing.{never, pick-cases, both_left, both_right}
 
 -- a kind byte with its kind
@@ -49,9 +46,9 @@ kind-is b =
     (λ _. is_unknown)
 
 -- the record that a decoded body stands for is these bytes
-abbrev Written : List ℕ → Decoded → Type 0
-Written bytes (D.Known i) = (bs : List ℕ) → record_of i bs ≡ bytes
-Written bytes D.Strange = Unit {0}
+abbrev Written : List ℕ → Option Item → Type 0
+Written bytes (Some i) = (bs : List ℕ) → record_of i bs ≡ bytes
+Written bytes None = Unit {0}
 
 statement-written : (n : ℕ) → Written (0x02 ∷ n ∷ []) (statement_of n)
 statement-written n =
@@ -68,9 +65,9 @@ column-written n =
     pick-cases (Written (0x03 ∷ n ∷ [])) (eqb n 0x12) _ _ (λ e bs. rw (eqb-true n 0x12 e)) (λ _. tt)
 
 -- an operator and a key are found by their codes
-abbrev OperatorHas : ℕ → FoundOperator → Type 0
-OperatorHas n (FO.Known o) = code_of o ≡ n
-OperatorHas n FO.Unknown = Unit {0}
+abbrev OperatorHas : ℕ → Option Operator → Type 0
+OperatorHas n (Some o) = code_of o ≡ n
+OperatorHas n None = Unit {0}
 
 operator-has : (n : ℕ) → OperatorHas n (operator_of n)
 operator-has n =
@@ -87,9 +84,9 @@ operator-has n =
     pick-cases (OperatorHas n) (eqb n 0x15) _ _ (λ e. sym (eqb-true n 0x15 e)) λ _.
     pick-cases (OperatorHas n) (eqb n 0x16) _ _ (λ e. sym (eqb-true n 0x16 e)) (λ _. tt)
 
-abbrev KeyHas : ℕ → FoundKey → Type 0
-KeyHas n (FK.Known k) = key_code k ≡ n
-KeyHas n FK.Unknown = Unit {0}
+abbrev KeyHas : ℕ → Option Key → Type 0
+KeyHas n (Some k) = key_code k ≡ n
+KeyHas n None = Unit {0}
 
 key_has : (n : ℕ) → KeyHas n (key_of n)
 key_has n =
@@ -99,11 +96,11 @@ key_has n =
     pick-cases (KeyHas n) (eqb n 3) _ _ (λ e. sym (eqb-true n 3 e)) λ _.
     pick-cases (KeyHas n) (eqb n 4) _ _ (λ e. sym (eqb-true n 4 e)) (λ _. tt)
 
-condition-written : (o k : ℕ) (operator : FoundOperator) (key : FoundKey) → OperatorHas o operator → KeyHas k key
+condition-written : (o k : ℕ) (operator : Option Operator) (key : Option Key) → OperatorHas o operator → KeyHas k key
     → Written (0x04 ∷ o ∷ k ∷ []) (condition_of_found operator key)
-condition-written o k (FO.Known operator) (FK.Known key) e h = λ bs. rw (e, h)
-condition-written o k (FO.Known operator) FK.Unknown e h = tt
-condition-written o k FO.Unknown key e h = tt
+condition-written o k (Some operator) (Some key) e h = λ bs. rw (e, h)
+condition-written o k (Some operator) None e h = tt
+condition-written o k None key e h = tt
 
 -- a list of one, two or five numbers by its elements
 one : (l : List ℕ) → length l ≡ 1 → l ≡ get_or l 0 0 ∷ []
@@ -143,7 +140,7 @@ network-written a b c d n ha hb hc hd bs =
 
 -- the bytes of a record are the record of the item that they say
 pub record-bytes : (b : ℕ) (k : Kind) → KindIs b k → (body : List ℕ) → length body ≡ size_of k → Bytes body
-    → (i : Item) → decode_of k body ≡ D.Known i → b ∷ body ≡ record_of i body
+    → (i : Item) → decode_of k body ≡ Some i → b ∷ body ≡ record_of i body
 record-bytes b k (is_start e) body size bytes i says =
     let f = one body size in
     let g : I.Start (get_or body 0 0) ≡ i = cc in
@@ -179,9 +176,9 @@ record-bytes b k (is_value low high) body size bytes i says =
 record-bytes b k is_unknown body size bytes i says = never (cc)
 
 -- a decoded body holds an item of this kind
-abbrev OfKind : Kind → ℕ → Decoded → Type 0
-OfKind k size (D.Known i) = kind_of_item i size ≡ k
-OfKind k size D.Strange = Unit {0}
+abbrev OfKind : Kind → ℕ → Option Item → Type 0
+OfKind k size (Some i) = kind_of_item i size ≡ k
+OfKind k size None = Unit {0}
 
 of-kind : (k : Kind) (body : List ℕ) → length body ≡ size_of k → OfKind k (length body) (decode_of k body)
 of-kind K.Start body size = refl
@@ -197,17 +194,17 @@ of-kind K.Column body size =
     pick-cases (OfKind K.Column (length body)) (eqb (get_or body 0 0) 0x12) _ _ (λ _. refl) (λ _. tt)
 of-kind K.Condition body size = found (operator_of (get_or body 0 0)) (key_of (get_or body 1 0))
   where
-    found : (o : FoundOperator) (k : FoundKey) → OfKind K.Condition (length body) (condition_of_found o k)
-    found (FO.Known o) (FK.Known k) = refl
-    found (FO.Known o) FK.Unknown = tt
-    found FO.Unknown k = tt
+    found : (o : Option Operator) (k : Option Key) → OfKind K.Condition (length body) (condition_of_found o k)
+    found (Some o) (Some k) = refl
+    found (Some o) None = tt
+    found None k = tt
 of-kind K.End body size = refl
 of-kind K.Network body size = refl
 of-kind (K.Value n) body size = ap K.Value size
 of-kind K.Unknown body size = tt
 
 -- the kind of the item that a body says is the record's kind
-pub same_kind : (k : Kind) (body : List ℕ) → length body ≡ size_of k → (i : Item) → decode_of k body ≡ D.Known i
+pub same_kind : (k : Kind) (body : List ℕ) → length body ≡ size_of k → (i : Item) → decode_of k body ≡ Some i
     → kind_of_item i (length body) ≡ k
 same_kind k body size i says = subst (OfKind k (length body)) says (of-kind k body size)
 

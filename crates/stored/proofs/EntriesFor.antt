@@ -7,7 +7,7 @@ use mathlib.Core.List.{List, [], ◌∷◌}
 use lib.ListN.{length}
 use Rattle.stored.specs.Operators.{row_of}
 use Rattle.stored.specs.Machine.{is_ended, takes_kind, column_phase, counted_state, opened_state, listed_state, filled_state, ended_state, kind_of_item}
-use Rattle.stored.specs.Reading.{reading}
+use Rattle.stored.specs.Reading.{ReadAnswer as A, reading}
 use Rattle.stored.specs.Entries.{Entry, item_of, bytes_of, entries_of}
 use Rattle.stored.specs.Entries.Entry.{start, statement, column, condition, network, value, end}
 use Rattle.stored.specs.Tables.{Part, gather, table_of, rows_of}
@@ -17,7 +17,6 @@ use Rattle.stored.specs.declared.records.Kind.{Kind}
 use Rattle.stored.specs.declared.machine.Phase.{Phase}
 use Rattle.stored.specs.declared.machine.Phase.TheVariants as P
 use Rattle.stored.specs.declared.machine.State.{State}
-use Rattle.stored.specs.declared.reader.ReadAnswer.TheVariants as A
 use Rattle.stored.proofs.Choosing.{never}
 use Rattle.stored.proofs.Accepting.{Leads, is_fresh, start_first, column-fresh, column-ended, took, rows_left, starts, read-leads}
 

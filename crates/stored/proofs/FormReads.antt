@@ -14,8 +14,8 @@ use Rattle.stored.specs.Items.{column_place, key_sort}
 use Rattle.stored.specs.Operators.{row_of}
 use Rattle.stored.specs.Values.{has_wildcard, is_star_alone}
 use Rattle.stored.specs.Networks.{network_sound}
-use Rattle.stored.specs.Machine.{fresh_state, is_ended, is_unknown, is_content, is_principals, is_text, same_sort, sound_in, takes_kind, leaves_empty, column_phase, place_due, counted_state, opened_state, listed_state, filled_state, ended_state, value_fault}
-use Rattle.stored.specs.Reading.{reading}
+use Rattle.stored.specs.Machine.{Turn as T, fresh_state, is_ended, is_unknown, is_content, is_principals, is_text, same_sort, sound_in, takes_kind, leaves_empty, column_phase, place_due, counted_state, opened_state, listed_state, filled_state, ended_state, value_fault}
+use Rattle.stored.specs.Reading.{ReadAnswer as A, reading}
 use Rattle.stored.specs.Entries.{Entry, encode, AllFit}
 use Rattle.stored.specs.Machinery.Following.{admit}
 use Rattle.stored.specs.Entries.Entry.{start, statement, column, condition, network, value, end}
@@ -32,8 +32,6 @@ use Rattle.stored.specs.declared.records.Kind.TheVariants as K
 use Rattle.stored.specs.declared.machine.Phase.{Phase}
 use Rattle.stored.specs.declared.machine.Phase.TheVariants as P
 use Rattle.stored.specs.declared.machine.State.{State}
-use Rattle.stored.specs.declared.machine.Turn.TheVariants as T
-use Rattle.stored.specs.declared.reader.ReadAnswer.TheVariants as A
 use Rattle.stored.proofs.Choosing.{never}
 use Rattle.stored.proofs.Turns.{admits}
 use Rattle.stored.proofs.Accepting.{Led}

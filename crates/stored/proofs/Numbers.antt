@@ -12,27 +12,19 @@ use borrow.Author.Tests.{ltb-true, ltb-false, eqb-false}
 use Rattle.stored.specs.Choice.{pick}
 use Rattle.stored.specs.Items.{column_place, key_sort}
 use Rattle.stored.specs.Operators.{row_of}
-use Rattle.stored.specs.Records.{kind_of, record_at}
+use Rattle.stored.specs.Records.{Record as R, Record, kind_of, record_at}
 use Rattle.stored.specs.Values.{in_range, has_variable}
 use Rattle.stored.specs.Networks.{network_sound}
-use Rattle.stored.specs.Machine.{fresh_state, is_ended, is_unknown, is_text, same_sort, sound_in, takes_kind, leaves_empty, due_of, place_due, value_fault, turn_of, kind_of_item, admit_item}
-use Rattle.stored.specs.Reading.{finish_of, after_turn, taken_record, taken_of, step_at, after_step, read_from, reading}
-use Rattle.stored.specs.Writing.{record_of, placing, writing}
+use Rattle.stored.specs.Machine.{Turn as T, Turn, fresh_state, is_ended, is_unknown, is_text, same_sort, sound_in, takes_kind, leaves_empty, due_of, place_due, value_fault, turn_of, kind_of_item, admit_item}
+use Rattle.stored.specs.Reading.{Step as S, ReadAnswer as A, Step, finish_of, after_turn, taken_record, taken_of, step_at, after_step, read_from, reading}
+use Rattle.stored.specs.Writing.{WriteAnswer as W, record_of, placing, writing}
 use Rattle.stored.specs.declared.items.Item.{Item}
 use Rattle.stored.specs.declared.items.Item.TheVariants as I
 use Rattle.stored.specs.declared.items.Sort.{Sort}
 use Rattle.stored.specs.declared.records.Kind.{Kind}
-use Rattle.stored.specs.declared.records.Record.{Record}
-use Rattle.stored.specs.declared.records.Record.TheVariants as R
 use Rattle.stored.specs.declared.machine.Phase.{Phase}
 use Rattle.stored.specs.declared.machine.State.{State}
-use Rattle.stored.specs.declared.machine.Turn.{Turn}
-use Rattle.stored.specs.declared.machine.Turn.TheVariants as T
-use Rattle.stored.specs.declared.reader.ReadAnswer.TheVariants as A
-use Rattle.stored.specs.declared.reader.Step.{Step}
-use Rattle.stored.specs.declared.reader.Step.TheVariants as S
 use Rattle.stored.specs.declared.writer.Writer.{Writer}
-use Rattle.stored.specs.declared.writer.WriteAnswer.TheVariants as W
 use Rattle.stored.proofs.Choosing.{never}
 use Rattle.stored.proofs.Steps.{goes-inside}
 

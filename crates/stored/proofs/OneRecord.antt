@@ -1,5 +1,6 @@
 -- The round trip of one record: the record of an entry, wherever it stands, is found as that entry's, and the bytes of a found
 -- record are the record of its item.
+use Rattle.std.specs.Prelude.{Option, Some, None}
 use Prim.Native.Nat.{ℕ, zero, suc, ◌+◌, ◌-◌, ◌/◌, ◌%◌, ◌^◌, ◌≤◌, ◌<◌}
 use mathlib.Core.Path.{◌≡◌, refl, sym, ◌∙◌, ap}
 use mathlib.Core.List.{List, [], ◌∷◌, ◌++◌}
@@ -8,9 +9,10 @@ use native.Mathlib.Numerals.{add-one}
 use lib.ListN.{length, get_or, take, drop, length-append}
 use lib.Seq.{take-append_seam, drop-append-add, get_or-append_seam, drop-cons}
 use borrow.Author.Tests.{lt-ltb, le-ltb, le-leb, ne_eqb}
+use Rattle.stored.specs.Machine.{Turn as T}
 use Rattle.stored.specs.Items.{effect_code, column_code, key_code, key_of}
 use Rattle.stored.specs.Operators.{code_of, operator_of}
-use Rattle.stored.specs.Records.{kind_of, size_of, decode_of, statement_of, column_of, condition_of, address_of, known, record_at}
+use Rattle.stored.specs.Records.{Record as R, kind_of, size_of, decode_of, statement_of, column_of, condition_of, address_of, known, record_at}
 use Rattle.stored.specs.Writing.{record_of}
 use Rattle.stored.specs.Entries.{Entry, entry_of, item_of, bytes_of, Bytes, Fits, HasRecord}
 use Rattle.stored.specs.Machinery.Following.{admit}
@@ -25,23 +27,18 @@ use Rattle.stored.specs.declared.items.Operator.{Operator}
 use Rattle.stored.specs.declared.items.Operator.TheVariants as O
 use Rattle.stored.specs.declared.items.Item.{Item}
 use Rattle.stored.specs.declared.items.Item.TheVariants as I
-use Rattle.stored.specs.declared.items.FoundKey.TheVariants as FK
-use Rattle.stored.specs.declared.operators.FoundOperator.TheVariants as FO
 use Rattle.stored.specs.declared.records.Kind.TheVariants as K
-use Rattle.stored.specs.declared.records.Decoded.TheVariants as D
-use Rattle.stored.specs.declared.records.Record.TheVariants as R
 use Rattle.stored.specs.declared.machine.State.{State}
 use Rattle.stored.proofs.Decoding.{kind-is, record-bytes}
 use Rattle.stored.proofs.Walking.{stands, body-length}
-use Rattle.stored.specs.declared.machine.Turn.TheVariants as T
 use Rattle.stored.proofs.Turns.{admitted, Turned, turned}
 
 -- every code says what it is the code of
-statement-said : (e : Effect) → statement_of (effect_code e) ≡ D.Known (I.Statement e)
+statement-said : (e : Effect) → statement_of (effect_code e) ≡ Some (I.Statement e)
 statement-said E.Deny = refl
 statement-said E.Allow = refl
 
-column-said : (c : Column) → column_of (column_code c) ≡ D.Known (I.Column c)
+column-said : (c : Column) → column_of (column_code c) ≡ Some (I.Column c)
 column-said C.Principal = refl
 column-said C.Action = refl
 column-said C.Resource = refl
@@ -49,7 +46,7 @@ column-said C.NotPrincipal = refl
 column-said C.NotAction = refl
 column-said C.NotResource = refl
 
-operator-said : (o : Operator) → operator_of (code_of o) ≡ FO.Known o
+operator-said : (o : Operator) → operator_of (code_of o) ≡ Some o
 operator-said O.StringEquals = refl
 operator-said O.StringNotEquals = refl
 operator-said O.StringLike = refl
@@ -63,14 +60,14 @@ operator-said O.StringNotLikeIfExists = refl
 operator-said O.IpAddressIfExists = refl
 operator-said O.NotIpAddressIfExists = refl
 
-key-said : (k : Key) → key_of (key_code k) ≡ FK.Known k
+key-said : (k : Key) → key_of (key_code k) ≡ Some k
 key-said Q.SourceVpc = refl
 key-said Q.Prefix = refl
 key-said Q.SourceVpce = refl
 key-said Q.Referer = refl
 key-said Q.SourceIp = refl
 
-condition-said : (o : Operator) (k : Key) → condition_of (code_of o) (key_code k) ≡ D.Known (I.Condition o k)
+condition-said : (o : Operator) (k : Key) → condition_of (code_of o) (key_code k) ≡ Some (I.Condition o k)
 condition-said o k = rw (operator-said o, key-said k)
 
 -- the four bytes of an address give it back

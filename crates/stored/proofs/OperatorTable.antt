@@ -1,4 +1,5 @@
 -- The rows of the operator table as a list, and what a search in it and a place in it give.
+use Rattle.std.specs.Prelude.{Option, Some, None}
 use mathlib.Core.Path.{◌≡◌, refl, sym}
 use mathlib.Core.List.{List, [], ◌∷◌}
 use Prim.Native.Nat.{ℕ, ◌+◌, ◌<◌}
@@ -12,8 +13,6 @@ use borrow.Author.Tests.{eq-eqb, ne_eqb}
 use Rattle.stored.specs.declared.items.Operator.{Operator}
 use Rattle.stored.specs.declared.items.Operator.TheVariants as O
 use Rattle.stored.specs.declared.operators.OperatorRow.{OperatorRow}
-use Rattle.stored.specs.declared.operators.FoundOperator.{FoundOperator}
-use Rattle.stored.specs.declared.operators.FoundOperator.TheVariants as F
 
 abbrev pub rows : List OperatorRow
 rows =
@@ -32,13 +31,13 @@ rows =
     ∷ []
 
 -- the operator of the first row that has the code
-abbrev pub first_with : ℕ → List OperatorRow → FoundOperator
-first_with code [] = F.Unknown
-first_with code (row ∷ rest) = pick (eqb code row.code) (F.Known row.operator) (first_with code rest)
+abbrev pub first_with : ℕ → List OperatorRow → Option Operator
+first_with code [] = None
+first_with code (row ∷ rest) = pick (eqb code row.code) (Some row.operator) (first_with code rest)
 
 -- a row with the code ends the search, and another one leaves it to the rows behind
 module _ (code i : ℕ) (d : OperatorRow) (h : i < 12) where
-  pub found : (get_or rows i d).code ≡ code → first_with code (drop i rows) ≡ F.Known (get_or rows i d).operator
+  pub found : (get_or rows i d).code ≡ code → first_with code (drop i rows) ≡ Some (get_or rows i d).operator
   found e = rw (left rows i d h, eq-eqb code (get_or rows i d).code (sym e))
 
   pub passed : ((get_or rows i d).code ≡ code → ⊥) → first_with code (drop i rows) ≡ first_with code (drop (i + 1) rows)

@@ -11,15 +11,12 @@ use lib.ListN.{length, take, drop, length-append, take-append-drop}
 use lib.Seq.{sets, sets-eq, length-sets, length-take-le, take_at, drop_at, drop-drop}
 use borrow.Author.Tests.{ltb-false, le-ltb}
 use Rattle.stored.specs.Choice.{pick}
-use Rattle.stored.specs.Machine.{admit_item}
-use Rattle.stored.specs.Writing.{record_of, placing, writing}
+use Rattle.stored.specs.Machine.{Turn as T, Turn, admit_item}
+use Rattle.stored.specs.Writing.{WriteAnswer as W, record_of, placing, writing}
 use Rattle.stored.specs.Entries.{Entry, item_of, bytes_of, encode, Writes}
 use Rattle.stored.specs.declared.items.Item.{Item}
 use Rattle.stored.specs.declared.machine.State.{State}
-use Rattle.stored.specs.declared.machine.Turn.{Turn}
-use Rattle.stored.specs.declared.machine.Turn.TheVariants as T
 use Rattle.stored.specs.declared.writer.Writer.{Writer}
-use Rattle.stored.specs.declared.writer.WriteAnswer.TheVariants as W
 use Rattle.stored.proofs.Choosing.{never}
 use Rattle.stored.proofs.Accepting.{Leads}
 

@@ -10,8 +10,8 @@ use lib.Dec.{eqb}
 use lib.ListN.{length, take, drop}
 use Rattle.stored.specs.Choice.{pick, In}
 use Rattle.stored.specs.Machine.{is_ended, due_of}
-use Rattle.stored.specs.Reading.{reading}
-use Rattle.stored.specs.Writing.{fresh_writer, record_of, writing}
+use Rattle.stored.specs.Reading.{ReadAnswer as A, reading}
+use Rattle.stored.specs.Writing.{WriteAnswer as W, fresh_writer, record_of, writing}
 use Rattle.stored.specs.Entries.{Entry, item_of, bytes_of, encode, entries_of, Bytes, AllFit, HasRecord, Writes}
 use Rattle.stored.specs.Entries.Entry.{end}
 use Rattle.stored.specs.Tables.{Statement, rows_of}
@@ -19,9 +19,7 @@ use Rattle.stored.specs.Form.{entries_for, WellFormed, SoundStatement}
 use Rattle.stored.specs.declared.items.Item.{Item}
 use Rattle.stored.specs.declared.items.Item.TheVariants as I
 use Rattle.stored.specs.declared.records.Kind.TheVariants as K
-use Rattle.stored.specs.declared.reader.ReadAnswer.TheVariants as A
 use Rattle.stored.specs.declared.writer.Writer.{Writer}
-use Rattle.stored.specs.declared.writer.WriteAnswer.TheVariants as W
 use Rattle.stored.proofs.Accepting
 use Rattle.stored.proofs.Steps
 use Rattle.stored.proofs.Statements

@@ -10,20 +10,15 @@ use lib.ListN.{length, take, drop, length-append, take-append-drop, drop_of_leng
 use lib.Seq.{sets, take_at, drop_at, drop-drop, take-append_seam, drop-append_seam}
 use borrow.Author.Tests.{ltb-false}
 use Rattle.stored.specs.Choice.{pick}
-use Rattle.stored.specs.Records.{record_at}
-use Rattle.stored.specs.Machine.{fresh_state, is_ended, admit_item}
-use Rattle.stored.specs.Reading.{finish_of, step_at, after_step, read_from, reading}
+use Rattle.stored.specs.Records.{Record as R, record_at}
+use Rattle.stored.specs.Machine.{Turn as T, fresh_state, is_ended, admit_item}
+use Rattle.stored.specs.Reading.{Step as S, ReadAnswer as A, Step, finish_of, step_at, after_step, read_from, reading}
 use Rattle.stored.specs.Writing.{fresh_writer, record_of}
 use Rattle.stored.specs.Entries.{Entry, entry_of, item_of, bytes_of, encode, entries_from, entries_of, Bytes, AllFit, Writes}
 use Rattle.stored.specs.Machinery.Following.{admit}
 use Rattle.stored.specs.Entries.Entry.{start, statement, column, condition, network, value, end}
 use Rattle.stored.specs.declared.items.Item.TheVariants as I
-use Rattle.stored.specs.declared.records.Record.TheVariants as R
 use Rattle.stored.specs.declared.machine.State.{State}
-use Rattle.stored.specs.declared.machine.Turn.TheVariants as T
-use Rattle.stored.specs.declared.reader.ReadAnswer.TheVariants as A
-use Rattle.stored.specs.declared.reader.Step.{Step}
-use Rattle.stored.specs.declared.reader.Step.TheVariants as S
 use Rattle.stored.specs.declared.writer.Writer.{Writer}
 use Rattle.stored.proofs.Choosing.{never}
 use Rattle.stored.proofs.Walking.{inside, past, goes_on_lem, ends-cut}

@@ -11,21 +11,16 @@ use lib.Dec.{eqb, leb, ltb}
 use lib.ListN.{length, take, drop, length-append}
 use borrow.Author.Tests.{ltb-true, lt-ltb, eq-eqb, ne_eqb}
 use Rattle.stored.specs.Choice.{pick}
-use Rattle.stored.specs.Records.{record_at}
-use Rattle.stored.specs.Machine.{fresh_state, due_of, admit_item}
-use Rattle.stored.specs.Reading.{after_turn, after_step, read_from, reading}
-use Rattle.stored.specs.Writing.{fresh_writer, record_of, placing, writing}
+use Rattle.stored.specs.Records.{Record as R, record_at}
+use Rattle.stored.specs.Machine.{Turn as T, Turn, fresh_state, due_of, admit_item}
+use Rattle.stored.specs.Reading.{ReadAnswer as A, after_turn, after_step, read_from, reading}
+use Rattle.stored.specs.Writing.{WriteAnswer as W, fresh_writer, record_of, placing, writing}
 use Rattle.stored.specs.Entries.{Entry, entry_of, item_of, bytes_of, encode, AllFit, HasRecord, Writes}
 use Rattle.stored.specs.Machinery.Following.{admit}
 use Rattle.stored.specs.declared.items.Item.TheVariants as I
 use Rattle.stored.specs.declared.records.Kind.TheVariants as K
-use Rattle.stored.specs.declared.records.Record.TheVariants as R
 use Rattle.stored.specs.declared.machine.State.{State}
-use Rattle.stored.specs.declared.machine.Turn.{Turn}
-use Rattle.stored.specs.declared.machine.Turn.TheVariants as T
-use Rattle.stored.specs.declared.reader.ReadAnswer.TheVariants as A
 use Rattle.stored.specs.declared.writer.Writer.{Writer}
-use Rattle.stored.specs.declared.writer.WriteAnswer.TheVariants as W
 use Rattle.stored.proofs.Choosing.{never}
 use Rattle.stored.proofs.Walking.{inside}
 use Rattle.stored.proofs.Turns.{same-admit}

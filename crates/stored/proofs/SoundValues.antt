@@ -14,8 +14,8 @@ use Rattle.stored.specs.Items.{column_place, key_sort}
 use Rattle.stored.specs.Operators.{row_of}
 use Rattle.stored.specs.Values.{in_range, has_variable, has_wildcard, is_star_alone}
 use Rattle.stored.specs.Networks.{network_sound}
-use Rattle.stored.specs.Machine.{is_principals, is_text, same_sort, sound_in, column_phase, counted_state, opened_state, listed_state, filled_state, ended_state, value_fault, turn_of}
-use Rattle.stored.specs.Reading.{reading}
+use Rattle.stored.specs.Machine.{Turn as T, is_principals, is_text, same_sort, sound_in, column_phase, counted_state, opened_state, listed_state, filled_state, ended_state, value_fault, turn_of}
+use Rattle.stored.specs.Reading.{ReadAnswer as A, reading}
 use Rattle.stored.specs.Entries.{Entry, item_of, bytes_of, entries_of}
 use Rattle.stored.specs.Machinery.Following.{admit}
 use Rattle.stored.specs.Entries.Entry.{start, statement, column, condition, network, value, end}
@@ -29,8 +29,6 @@ use Rattle.stored.specs.declared.items.Sort.TheVariants as O
 use Rattle.stored.specs.declared.machine.Phase.{Phase}
 use Rattle.stored.specs.declared.machine.Phase.TheVariants as P
 use Rattle.stored.specs.declared.machine.State.{State}
-use Rattle.stored.specs.declared.machine.Turn.TheVariants as T
-use Rattle.stored.specs.declared.reader.ReadAnswer.TheVariants as A
 use Rattle.stored.proofs.Choosing.{never, both_left, both_right}
 use Rattle.stored.proofs.Turns.{refused-else, else-refused, admitted, sized}
 use Rattle.stored.proofs.Accepting.{Leads, is_fresh, start_first, column-fresh, took, starts, read-leads}

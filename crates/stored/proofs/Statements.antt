@@ -10,8 +10,8 @@ use lib.ListN.{length}
 use Rattle.stored.specs.Choice.{In}
 use Rattle.stored.specs.Items.{column_place}
 use Rattle.stored.specs.Operators.{row_of}
-use Rattle.stored.specs.Machine.{is_ended, is_content, only_column, takes_kind, leaves_empty, column_phase, place_due, counted_state, opened_state, listed_state, filled_state, ended_state, kind_of_item}
-use Rattle.stored.specs.Reading.{reading}
+use Rattle.stored.specs.Machine.{Turn as T, is_ended, is_content, only_column, takes_kind, leaves_empty, column_phase, place_due, counted_state, opened_state, listed_state, filled_state, ended_state, kind_of_item}
+use Rattle.stored.specs.Reading.{ReadAnswer as A, reading}
 use Rattle.stored.specs.Entries.{Entry, item_of, bytes_of, entries_of}
 use Rattle.stored.specs.Machinery.Following.{admit}
 use Rattle.stored.specs.Entries.Entry.{start, statement, column, condition, network, value, end}
@@ -26,8 +26,6 @@ use Rattle.stored.specs.declared.records.Kind.TheVariants as K
 use Rattle.stored.specs.declared.machine.Phase.{Phase}
 use Rattle.stored.specs.declared.machine.Phase.TheVariants as P
 use Rattle.stored.specs.declared.machine.State.{State}
-use Rattle.stored.specs.declared.machine.Turn.TheVariants as T
-use Rattle.stored.specs.declared.reader.ReadAnswer.TheVariants as A
 use Rattle.stored.proofs.Choosing.{never}
 use Rattle.stored.proofs.Turns.{admitted, fills, Within, within}
 use Rattle.stored.proofs.Accepting.{Leads, is_fresh, start_first, column-fresh, column-ended, took, starts, read-leads}

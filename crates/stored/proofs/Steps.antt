@@ -8,18 +8,11 @@ use lib.Dec.{eqb, ltb}
 use lib.ListN.{length, get_or, take, drop}
 use borrow.Author.Tests.{lt-ltb, le-ltb, eqb-true}
 use Rattle.stored.specs.Choice.{pick}
-use Rattle.stored.specs.Records.{kind_of, record_at}
-use Rattle.stored.specs.Machine.{fresh_state, due_of, turn_of, admit_item}
-use Rattle.stored.specs.Reading.{finish_of, after_turn, taken_record, taken_of, step_at, after_step, read_from, reading}
+use Rattle.stored.specs.Records.{Record as R, Record, kind_of, record_at}
+use Rattle.stored.specs.Machine.{Turn as T, Turn, fresh_state, due_of, turn_of, admit_item}
+use Rattle.stored.specs.Reading.{Step as S, ReadAnswer as A, Step, finish_of, after_turn, taken_record, taken_of, step_at, after_step, read_from, reading}
 use Rattle.stored.specs.declared.items.Item.{Item}
-use Rattle.stored.specs.declared.records.Record.{Record}
-use Rattle.stored.specs.declared.records.Record.TheVariants as R
 use Rattle.stored.specs.declared.machine.State.{State}
-use Rattle.stored.specs.declared.machine.Turn.{Turn}
-use Rattle.stored.specs.declared.machine.Turn.TheVariants as T
-use Rattle.stored.specs.declared.reader.ReadAnswer.TheVariants as A
-use Rattle.stored.specs.declared.reader.Step.{Step}
-use Rattle.stored.specs.declared.reader.Step.TheVariants as S
 use Rattle.stored.proofs.Choosing.{never}
 use Rattle.stored.proofs.Walking.{inside, kind-agrees}
 

@@ -12,7 +12,7 @@ use Rattle.stored.specs.Items.{column_place, key_sort}
 use Rattle.stored.specs.Operators.{row_of}
 use Rattle.stored.specs.Values.{in_range, has_variable}
 use Rattle.stored.specs.Networks.{network_sound}
-use Rattle.stored.specs.Machine.{is_ended, is_unknown, is_text, same_sort, sound_in, takes_kind, leaves_empty, due_of, column_phase, place_due, counted_state, opened_state, listed_state, filled_state, ended_state, value_fault, turn_of, kind_of_item, admit_item}
+use Rattle.stored.specs.Machine.{Turn as T, Turn, is_ended, is_unknown, is_text, same_sort, sound_in, takes_kind, leaves_empty, due_of, column_phase, place_due, counted_state, opened_state, listed_state, filled_state, ended_state, value_fault, turn_of, kind_of_item, admit_item}
 use Rattle.stored.specs.Entries.{Entry, entry_of, item_of, bytes_of}
 use Rattle.stored.specs.Machinery.Following.{admit}
 use Rattle.stored.specs.Entries.Entry.{start, statement, column, condition, network, value, end}
@@ -24,8 +24,6 @@ use Rattle.stored.specs.declared.records.Kind.{Kind}
 use Rattle.stored.specs.declared.machine.Phase.{Phase}
 use Rattle.stored.specs.declared.machine.Phase.TheVariants as P
 use Rattle.stored.specs.declared.machine.State.{State}
-use Rattle.stored.specs.declared.machine.Turn.{Turn}
-use Rattle.stored.specs.declared.machine.Turn.TheVariants as T
 use Rattle.stored.proofs.Choosing.{never}
 
 -- a choice between a refusal and a turn that ends in a next state

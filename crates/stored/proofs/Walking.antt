@@ -1,5 +1,6 @@
 -- The walk over the records of a byte string: a record lies inside it, the walk goes on behind a record, and a cut or strange record
 -- ends it.
+use Rattle.std.specs.Prelude.{Option, Some, None}
 use Prim.Native.Nat.{ℕ, zero, suc, ◌+◌, ◌-◌, ◌≤◌, ◌<◌}
 use mathlib.Core.Path.{◌≡◌, refl, sym, ◌∙◌, ap}
 use mathlib.Core.Bool.{Bool, true, false}
@@ -10,16 +11,12 @@ use lib.ListN.{length, get_or, take, drop, length-drop}
 use lib.Seq.{length-take-le}
 use borrow.Author.Tests.{ltb-true, ltb-false, le-ltb}
 use Rattle.stored.specs.Choice.{pick}
-use Rattle.stored.specs.Records.{kind_of, size_of, decode_of, known, record_behind, record_at}
+use Rattle.stored.specs.Records.{Record as R, Record, kind_of, size_of, decode_of, known, record_behind, record_at}
 use Rattle.stored.specs.Entries.{entry_of, after_record, walk, entries_from}
 use Rattle.stored.specs.declared.items.Item.{Item}
 use Rattle.stored.specs.declared.items.Item.TheVariants as I
 use Rattle.stored.specs.declared.records.Kind.{Kind}
 use Rattle.stored.specs.declared.records.Kind.TheVariants as K
-use Rattle.stored.specs.declared.records.Decoded.{Decoded}
-use Rattle.stored.specs.declared.records.Decoded.TheVariants as D
-use Rattle.stored.specs.declared.records.Record.{Record}
-use Rattle.stored.specs.declared.records.Record.TheVariants as R
 use Rattle.stored.specs.Machine.{kind_of_item}
 use Rattle.stored.proofs.Choosing.{never}
 use Rattle.stored.proofs.Decoding.{kind-is, same_kind, value-size}
@@ -30,12 +27,12 @@ pub record Stands (t : List ℕ) (at : ℕ) (i : Item) (s n : ℕ) : Type 0 wher
   pub behind : s ≡ at + 1
   pub size : n ≡ size_of (kind_of (get_or t at 0))
   pub fits : s + n ≤ length t
-  pub says : decode_of (kind_of (get_or t at 0)) (take n (drop s t)) ≡ D.Known i
+  pub says : decode_of (kind_of (get_or t at 0)) (take n (drop s t)) ≡ Some i
 
-says-known : (begin size : ℕ) (d : Decoded) (i : Item) (s n : ℕ) → known begin size d ≡ R.Is i s n
-    → (d ≡ D.Known i) × (begin ≡ s) × (size ≡ n)
-says-known begin size (D.Known j) i s n e = (cc, cc, cc)
-says-known begin size D.Strange i s n e = never (cc)
+says-known : (begin size : ℕ) (d : Option Item) (i : Item) (s n : ℕ) → known begin size d ≡ R.Is i s n
+    → (d ≡ Some i) × (begin ≡ s) × (size ≡ n)
+says-known begin size (Some j) i s n e = (cc, cc, cc)
+says-known begin size None i s n e = never (cc)
 
 pub stands : (t : List ℕ) (at : ℕ) (i : Item) (s n : ℕ) → record_at t at ≡ R.Is i s n → Stands t at i s n
 unfolding record_at
@@ -48,7 +45,7 @@ stands t at i s n = outer (ltb at (length t)) refl
         → pick b R.Cut (known (at + 1) (size_of k) (decode_of k (take (size_of k) (drop (at + 1) t)))) ≡ R.Is i s n → Stands t at i s n
     inner low true e h = never (cc)
     inner low false e h =
-        let f : (decode_of k (take (size_of k) (drop (at + 1) t)) ≡ D.Known i) × (at + 1 ≡ s) × (size_of k ≡ n)
+        let f : (decode_of k (take (size_of k) (drop (at + 1) t)) ≡ Some i) × (at + 1 ≡ s) × (size_of k ≡ n)
         = says-known (at + 1) (size_of k) _ i s n h in
         let e1 = f.1 in
         let e2 = f.2 in

@@ -10,12 +10,11 @@ use native.Mathlib.Omega.{arith}
 use lib.Dec.{ltb, leb, eqb}
 use borrow.Author.Tests.{ltb-false}
 use Rattle.stored.specs.Choice.{pick}
-use Rattle.stored.specs.Machine.{due_of, kind_of_item, admit_item}
+use Rattle.stored.specs.Machine.{Turn as T, due_of, kind_of_item, admit_item}
 use Rattle.stored.specs.Machinery.Placing.{HasKind}
 use Rattle.stored.specs.declared.items.Item.{Item}
 use Rattle.stored.specs.declared.items.Item.TheVariants as I
 use Rattle.stored.specs.declared.machine.State.{State}
-use Rattle.stored.specs.declared.machine.Turn.TheVariants as T
 use lib.Seq.{sets, sets-eq, paste, take-length}
 
 pub pasted : (buffer : List ℕ) (at : ℕ) (bytes : List ℕ) (i : ℕ)

@@ -2,18 +2,15 @@
 -- takes them one after the other.
 use Rattle.std.specs.Prelude.{ℕ, zero, suc, ◌+◌, ◌-◌, ◌^◌, ◌≤◌, ◌<◌, ◌≡◌, List, [], ◌∷◌, ◌++◌, length, take, drop}
 use Rattle.std.proofs.lemmas.List.Edits.{sets}
-use Rattle.stored.specs.Records.{record_at}
-use Rattle.stored.specs.Writing.{record_of, writing}
+use Rattle.stored.specs.Records.{Record as R, Record, record_at}
+use Rattle.stored.specs.Writing.{WriteAnswer as W, record_of, writing}
 use Rattle.stored.specs.declared.items.Effect.{Effect}
 use Rattle.stored.specs.declared.items.Column.{Column}
 use Rattle.stored.specs.declared.items.Operator.{Operator}
 use Rattle.stored.specs.declared.items.Key.{Key}
 use Rattle.stored.specs.declared.items.Item.{Item}
 use Rattle.stored.specs.declared.items.Item.TheVariants as I
-use Rattle.stored.specs.declared.records.Record.{Record}
-use Rattle.stored.specs.declared.records.Record.TheVariants as R
 use Rattle.stored.specs.declared.writer.Writer.{Writer}
-use Rattle.stored.specs.declared.writer.WriteAnswer.TheVariants as W
 
 -- a record as data
 pub data Entry : Type 0 where

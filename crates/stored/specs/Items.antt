@@ -1,5 +1,5 @@
 -- The codes of effects, columns and keys (RULES 2).
-use Rattle.std.specs.Prelude.{ℕ, Bool, true, false, eqb}
+use Rattle.std.specs.Prelude.{ℕ, Bool, true, false, eqb, Option, Some, None}
 use Rattle.stored.specs.Choice.{pick}
 use Rattle.stored.specs.declared.items.Effect.{Effect}
 use Rattle.stored.specs.declared.items.Effect.TheVariants as E
@@ -9,8 +9,6 @@ use Rattle.stored.specs.declared.items.Key.{Key}
 use Rattle.stored.specs.declared.items.Key.TheVariants as K
 use Rattle.stored.specs.declared.items.Sort.{Sort}
 use Rattle.stored.specs.declared.items.Sort.TheVariants as S
-use Rattle.stored.specs.declared.items.FoundKey.{FoundKey}
-use Rattle.stored.specs.declared.items.FoundKey.TheVariants as F
 
 -- 0 deny, 1 allow
 abbrev pub effect_code : Effect → ℕ
@@ -52,14 +50,14 @@ key_code K.SourceVpce = 2
 key_code K.Referer = 3
 key_code K.SourceIp = 4
 
--- the key with a code
-abbrev pub key_of : ℕ → FoundKey
+-- the key with a code, where one has it
+abbrev pub key_of : ℕ → Option Key
 key_of n =
-    pick (eqb n 0) (F.Known K.SourceVpc)
-    (pick (eqb n 1) (F.Known K.Prefix)
-    (pick (eqb n 2) (F.Known K.SourceVpce)
-    (pick (eqb n 3) (F.Known K.Referer)
-    (pick (eqb n 4) (F.Known K.SourceIp) F.Unknown))))
+    pick (eqb n 0) (Some K.SourceVpc)
+    (pick (eqb n 1) (Some K.Prefix)
+    (pick (eqb n 2) (Some K.SourceVpce)
+    (pick (eqb n 3) (Some K.Referer)
+    (pick (eqb n 4) (Some K.SourceIp) None))))
 
 -- keys 0 to 3 hold strings, key 4 an address
 abbrev pub key_sort : Key → Sort

@@ -1,6 +1,6 @@
 -- The one state machine, for the reader and the writer, split as the order of RULES 7.1 is: what the kind alone decides (4 after the
 -- end, 3, 5, 4), and what the whole record decides (4 for a column, 6, 7, 8).
-use Rattle.std.specs.Prelude.{ℕ, ◌+◌, ◌-◌, Bool, true, false, not, ◌&&◌, ◌||◌, List, eqb, leb, ltb, length}
+use Rattle.std.specs.Prelude.{ℕ, ◌+◌, ◌-◌, Bool, true, false, not, ◌&&◌, ◌||◌, List, eqb, leb, ltb, length, Result, Ok, Err}
 use Rattle.stored.specs.Choice.{pick}
 use Rattle.stored.specs.Items.{column_place, key_sort}
 use Rattle.stored.specs.Operators.{row_of}
@@ -19,8 +19,23 @@ use Rattle.stored.specs.declared.records.Kind.TheVariants as K
 use Rattle.stored.specs.declared.machine.Phase.{Phase}
 use Rattle.stored.specs.declared.machine.Phase.TheVariants as P
 use Rattle.stored.specs.declared.machine.State.{State}
-use Rattle.stored.specs.declared.machine.Turn.{Turn}
-use Rattle.stored.specs.declared.machine.Turn.TheVariants as T
+use Rattle.refusals.specs.declared.Reason.{Reason}
+use Rattle.refusals.specs.Numbers.{number_of}
+
+-- what a record leads to: the next state, or the number of the refusal
+pub data Turn : Type 0 where
+  Next : State → Turn
+  Refused : ℕ → Turn
+
+-- what the code answers for a record, as a turn
+abbrev pub as_turn : Result State Reason → Turn
+as_turn (Ok s) = Next s
+as_turn (Err reason) = Refused (number_of reason)
+
+-- what the code finds wrong, as the number of the refusal, or 0
+abbrev pub as_fault : Result (Unit {0}) Reason → ℕ
+as_fault (Ok u) = 0
+as_fault (Err reason) = number_of reason
 
 abbrev pub fresh_state : State
 fresh_state = record { phase = P.Fresh; rows = 0; left = 0; values = 0; conditions = 0; waiting = false; sort = S.Text }
@@ -206,40 +221,40 @@ value_fault p sort bs =
 
 -- over 32 statements announced: 6
 abbrev pub start_turn : ℕ → Turn
-start_turn n = pick (ltb 32 n) (T.Refused 6) (T.Next (counted_state n))
+start_turn n = pick (ltb 32 n) (Refused 6) (Next (counted_state n))
 
 -- a column out of turn or repeated: 4
 abbrev pub column_turn : State → Column → Turn
 column_turn s c =
-    pick (eqb (place_due s.phase) (column_place c)) (T.Next (listed_state s (column_phase c) s.conditions S.Text)) (T.Refused 4)
+    pick (eqb (place_due s.phase) (column_place c)) (Next (listed_state s (column_phase c) s.conditions S.Text)) (Refused 4)
 
 -- a fifth condition: 6; operator and key of different sorts: 8
 abbrev pub condition_turn : State → Operator → Key → Turn
 condition_turn s o k =
-    pick (leb 4 s.conditions) (T.Refused 6)
-    (pick (same_sort (row_of o).sort (key_sort k)) (T.Next (listed_state s P.Conditions (s.conditions + 1) (row_of o).sort)) (T.Refused 8))
+    pick (leb 4 s.conditions) (Refused 6)
+    (pick (same_sort (row_of o).sort (key_sort k)) (Next (listed_state s P.Conditions (s.conditions + 1) (row_of o).sort)) (Refused 8))
 
 -- a 65th value or network: 6; a list of values, a length over 32 or low bits set: 8
 abbrev pub network_turn : State → ℕ → ℕ → Turn
 network_turn s a n =
-    pick (leb 64 s.values) (T.Refused 6)
-    (pick (not (is_text s.sort) && network_sound a n) (T.Next (filled_state s (s.values + 1))) (T.Refused 8))
+    pick (leb 64 s.values) (Refused 6)
+    (pick (not (is_text s.sort) && network_sound a n) (Next (filled_state s (s.values + 1))) (Refused 8))
 
 -- a 65th value or network: 6; then what is wrong with the value by itself
 abbrev pub value_turn : State → List ℕ → Turn
 value_turn s bs =
-    pick (leb 64 s.values) (T.Refused 6)
-    (pick (eqb (value_fault s.phase s.sort bs) 0) (T.Next (filled_state s (s.values + 1))) (T.Refused (value_fault s.phase s.sort bs)))
+    pick (leb 64 s.values) (Refused 6)
+    (pick (eqb (value_fault s.phase s.sort bs) 0) (Next (filled_state s (s.values + 1))) (Refused (value_fault s.phase s.sort bs)))
 
 -- what a whole record decides, once its kind is in turn
 abbrev pub turn_of : State → Item → List ℕ → Turn
 turn_of s (I.Start n) bs = start_turn n
-turn_of s (I.Statement e) bs = T.Next (opened_state s)
+turn_of s (I.Statement e) bs = Next (opened_state s)
 turn_of s (I.Column c) bs = column_turn s c
 turn_of s (I.Condition o k) bs = condition_turn s o k
 turn_of s (I.Network a n) bs = network_turn s a n
 turn_of s I.Value bs = value_turn s bs
-turn_of s I.End bs = T.Next (ended_state s)
+turn_of s I.End bs = Next (ended_state s)
 
 -- the kind of an item's record
 abbrev pub kind_of_item : Item → ℕ → Kind
@@ -254,4 +269,4 @@ kind_of_item I.End size = K.End
 -- the state machine: the next state, or the refusal
 unfoldable pub admit_item : State → Item → List ℕ → Turn
 admit_item s i bs =
-    pick (eqb (due_of s (kind_of_item i (length bs))) 0) (turn_of s i bs) (T.Refused (due_of s (kind_of_item i (length bs))))
+    pick (eqb (due_of s (kind_of_item i (length bs))) 0) (turn_of s i bs) (Refused (due_of s (kind_of_item i (length bs))))

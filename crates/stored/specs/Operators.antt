@@ -1,14 +1,12 @@
 -- The operators by their codes: 1 StringEquals, 2 StringNotEquals, 3 StringLike, 4 StringNotLike, 5 IpAddress, 6 NotIpAddress; the same
 -- plus hex 10 is the IfExists form (RULES 2.4).
-use Rattle.std.specs.Prelude.{ℕ, ◌%◌, Bool, eqb, leb}
+use Rattle.std.specs.Prelude.{ℕ, ◌%◌, Bool, eqb, leb, Option, Some, None}
 use Rattle.stored.specs.Choice.{pick}
 use Rattle.stored.specs.declared.items.Operator.{Operator}
 use Rattle.stored.specs.declared.items.Operator.TheVariants as O
 use Rattle.stored.specs.declared.items.Sort.{Sort}
 use Rattle.stored.specs.declared.items.Sort.TheVariants as S
 use Rattle.stored.specs.declared.operators.OperatorRow.{OperatorRow}
-use Rattle.stored.specs.declared.operators.FoundOperator.{FoundOperator}
-use Rattle.stored.specs.declared.operators.FoundOperator.TheVariants as F
 
 -- the code of an operator
 abbrev pub code_of : Operator → ℕ
@@ -53,18 +51,18 @@ row_of o =
       absent = absent_code (code_of o);
     }
 
--- the operator with a code
-abbrev pub operator_of : ℕ → FoundOperator
+-- the operator with a code, where one has it
+abbrev pub operator_of : ℕ → Option Operator
 operator_of n =
-    pick (eqb n 0x01) (F.Known O.StringEquals)
-    (pick (eqb n 0x02) (F.Known O.StringNotEquals)
-    (pick (eqb n 0x03) (F.Known O.StringLike)
-    (pick (eqb n 0x04) (F.Known O.StringNotLike)
-    (pick (eqb n 0x05) (F.Known O.IpAddress)
-    (pick (eqb n 0x06) (F.Known O.NotIpAddress)
-    (pick (eqb n 0x11) (F.Known O.StringEqualsIfExists)
-    (pick (eqb n 0x12) (F.Known O.StringNotEqualsIfExists)
-    (pick (eqb n 0x13) (F.Known O.StringLikeIfExists)
-    (pick (eqb n 0x14) (F.Known O.StringNotLikeIfExists)
-    (pick (eqb n 0x15) (F.Known O.IpAddressIfExists)
-    (pick (eqb n 0x16) (F.Known O.NotIpAddressIfExists) F.Unknown)))))))))))
+    pick (eqb n 0x01) (Some O.StringEquals)
+    (pick (eqb n 0x02) (Some O.StringNotEquals)
+    (pick (eqb n 0x03) (Some O.StringLike)
+    (pick (eqb n 0x04) (Some O.StringNotLike)
+    (pick (eqb n 0x05) (Some O.IpAddress)
+    (pick (eqb n 0x06) (Some O.NotIpAddress)
+    (pick (eqb n 0x11) (Some O.StringEqualsIfExists)
+    (pick (eqb n 0x12) (Some O.StringNotEqualsIfExists)
+    (pick (eqb n 0x13) (Some O.StringLikeIfExists)
+    (pick (eqb n 0x14) (Some O.StringNotLikeIfExists)
+    (pick (eqb n 0x15) (Some O.IpAddressIfExists)
+    (pick (eqb n 0x16) (Some O.NotIpAddressIfExists) None)))))))))))

@@ -1,5 +1,5 @@
 -- A record: one byte of kind, then a body whose length the kind fixes (RULES 2).
-use Rattle.std.specs.Prelude.{ℕ, ◌+◌, ◌-◌, ◌*◌, ◌&&◌, List, eqb, leb, ltb, length, get_or, take, drop}
+use Rattle.std.specs.Prelude.{ℕ, ◌+◌, ◌-◌, ◌*◌, ◌&&◌, List, eqb, leb, ltb, length, get_or, take, drop, Option, Some, None, Result, Ok, Err}
 use Rattle.stored.specs.Choice.{pick}
 use Rattle.stored.specs.Items.{key_of}
 use Rattle.stored.specs.Operators.{operator_of}
@@ -7,16 +7,33 @@ use Rattle.stored.specs.declared.items.Effect.TheVariants as E
 use Rattle.stored.specs.declared.items.Column.TheVariants as C
 use Rattle.stored.specs.declared.items.Item.{Item}
 use Rattle.stored.specs.declared.items.Item.TheVariants as I
-use Rattle.stored.specs.declared.items.FoundKey.{FoundKey}
-use Rattle.stored.specs.declared.items.FoundKey.TheVariants as FK
-use Rattle.stored.specs.declared.operators.FoundOperator.{FoundOperator}
-use Rattle.stored.specs.declared.operators.FoundOperator.TheVariants as FO
+use Rattle.stored.specs.declared.items.Key.{Key}
+use Rattle.stored.specs.declared.items.Operator.{Operator}
 use Rattle.stored.specs.declared.records.Kind.{Kind}
 use Rattle.stored.specs.declared.records.Kind.TheVariants as K
-use Rattle.stored.specs.declared.records.Decoded.{Decoded}
-use Rattle.stored.specs.declared.records.Decoded.TheVariants as D
-use Rattle.stored.specs.declared.records.Record.{Record}
-use Rattle.stored.specs.declared.records.Record.TheVariants as R
+use Rattle.stored.specs.declared.records.Record as Code
+use Rattle.stored.specs.declared.records.RecordFault.{RecordFault}
+use Rattle.stored.specs.declared.records.RecordFault.TheVariants as F
+use Rattle.refusals.specs.declared.Reason.{Reason}
+use Rattle.refusals.specs.declared.Reason.TheVariants as Q
+
+-- the record at a place: its item, where its body starts and how long that is (the next record is behind it); or the bytes end inside it or
+-- before it; or its kind or one of its codes is unknown
+pub data Record : Type 0 where
+  Is : Item → ℕ → ℕ → Record
+  Cut : Record
+  Strange : Record
+
+-- what the code answers for a record, as one
+abbrev pub as_record : Result Code.Record RecordFault → Record
+as_record (Ok r) = Is r.item r.start r.size
+as_record (Err F.Cut) = Cut
+as_record (Err F.Strange) = Strange
+
+-- why no record that is cut or strange is taken: 2, 3
+abbrev pub reason_of : RecordFault → Reason
+reason_of F.Cut = Q.Cut
+reason_of F.Strange = Q.Unknown
 
 -- 01 to 06 are single kinds; 40 to BF is a value of 1 to 128 bytes; every other byte is unknown
 abbrev pub kind_of : ℕ → Kind
@@ -41,26 +58,26 @@ size_of (K.Value n) = n
 size_of K.Unknown = 0
 
 -- 0 deny, 1 allow
-abbrev pub statement_of : ℕ → Decoded
-statement_of n = pick (eqb n 0) (D.Known (I.Statement E.Deny)) (pick (eqb n 1) (D.Known (I.Statement E.Allow)) D.Strange)
+abbrev pub statement_of : ℕ → Option Item
+statement_of n = pick (eqb n 0) (Some (I.Statement E.Deny)) (pick (eqb n 1) (Some (I.Statement E.Allow)) None)
 
 -- 00, 01, 02 principal, action, resource; 10, 11, 12 the Not-forms
-abbrev pub column_of : ℕ → Decoded
+abbrev pub column_of : ℕ → Option Item
 column_of n =
-    pick (eqb n 0x00) (D.Known (I.Column C.Principal))
-    (pick (eqb n 0x01) (D.Known (I.Column C.Action))
-    (pick (eqb n 0x02) (D.Known (I.Column C.Resource))
-    (pick (eqb n 0x10) (D.Known (I.Column C.NotPrincipal))
-    (pick (eqb n 0x11) (D.Known (I.Column C.NotAction))
-    (pick (eqb n 0x12) (D.Known (I.Column C.NotResource)) D.Strange)))))
+    pick (eqb n 0x00) (Some (I.Column C.Principal))
+    (pick (eqb n 0x01) (Some (I.Column C.Action))
+    (pick (eqb n 0x02) (Some (I.Column C.Resource))
+    (pick (eqb n 0x10) (Some (I.Column C.NotPrincipal))
+    (pick (eqb n 0x11) (Some (I.Column C.NotAction))
+    (pick (eqb n 0x12) (Some (I.Column C.NotResource)) None)))))
 
 -- both codes are known
-abbrev pub condition_of_found : FoundOperator → FoundKey → Decoded
-condition_of_found (FO.Known o) (FK.Known k) = D.Known (I.Condition o k)
-condition_of_found (FO.Known o) FK.Unknown = D.Strange
-condition_of_found FO.Unknown k = D.Strange
+abbrev pub condition_of_found : Option Operator → Option Key → Option Item
+condition_of_found (Some o) (Some k) = Some (I.Condition o k)
+condition_of_found (Some o) None = None
+condition_of_found None k = None
 
-abbrev pub condition_of : ℕ → ℕ → Decoded
+abbrev pub condition_of : ℕ → ℕ → Option Item
 condition_of o k = condition_of_found (operator_of o) (key_of k)
 
 -- four address bytes, high first
@@ -71,26 +88,26 @@ abbrev pub network_of : ℕ → ℕ → ℕ → ℕ → ℕ → Item
 network_of a b c d n = I.Network (address_of a b c d) n
 
 -- what a body says
-abbrev pub decode_of : Kind → List ℕ → Decoded
-decode_of K.Start body = D.Known (I.Start (get_or body 0 0))
+abbrev pub decode_of : Kind → List ℕ → Option Item
+decode_of K.Start body = Some (I.Start (get_or body 0 0))
 decode_of K.Statement body = statement_of (get_or body 0 0)
 decode_of K.Column body = column_of (get_or body 0 0)
 decode_of K.Condition body = condition_of (get_or body 0 0) (get_or body 1 0)
-decode_of K.End body = D.Known I.End
-decode_of K.Network body = D.Known (network_of (get_or body 0 0) (get_or body 1 0) (get_or body 2 0) (get_or body 3 0) (get_or body 4 0))
-decode_of (K.Value n) body = D.Known I.Value
-decode_of K.Unknown body = D.Strange
+decode_of K.End body = Some I.End
+decode_of K.Network body = Some (network_of (get_or body 0 0) (get_or body 1 0) (get_or body 2 0) (get_or body 3 0) (get_or body 4 0))
+decode_of (K.Value n) body = Some I.Value
+decode_of K.Unknown body = None
 
-abbrev pub known : ℕ → ℕ → Decoded → Record
-known start size (D.Known i) = R.Is i start size
-known start size D.Strange = R.Strange
+abbrev pub known : ℕ → ℕ → Option Item → Record
+known start size (Some i) = Is i start size
+known start size None = Strange
 
 -- the record whose kind is known and whose body starts at a place
 abbrev pub record_behind : List ℕ → ℕ → Kind → Record
 record_behind t start k =
-    pick (ltb (length t - start) (size_of k)) R.Cut
+    pick (ltb (length t - start) (size_of k)) Cut
     (known start (size_of k) (decode_of k (take (size_of k) (drop start t))))
 
 -- the record at a place of any byte string
 unfoldable pub record_at : List ℕ → ℕ → Record
-record_at t at = pick (ltb at (length t)) (record_behind t (at + 1) (kind_of (get_or t at 0))) R.Cut
+record_at t at = pick (ltb at (length t)) (record_behind t (at + 1) (kind_of (get_or t at 0))) Cut

@@ -2,14 +2,14 @@
 ghost use Rattle.std.specs.Prelude.{◌≡◌};
 ghost use Rattle.stored.specs.Items.{effect_code, column_code, column_place, column_negated, key_code, key_of, key_sort};
 
-#[derive(Clone, Copy)]
+#[derive(Clone, Copy, Debug, PartialEq, Eq)]
 pub enum Effect {
     Deny,
     Allow,
 }
 
 // The three elements of a statement, and their Not-forms.
-#[derive(Clone, Copy)]
+#[derive(Clone, Copy, Debug, PartialEq, Eq)]
 pub enum Column {
     Principal,
     Action,
@@ -20,7 +20,7 @@ pub enum Column {
 }
 
 // The six operators, and their IfExists forms.
-#[derive(Clone, Copy)]
+#[derive(Clone, Copy, Debug, PartialEq, Eq)]
 pub enum Operator {
     StringEquals,
     StringNotEquals,
@@ -36,7 +36,7 @@ pub enum Operator {
     NotIpAddressIfExists,
 }
 
-#[derive(Clone, Copy)]
+#[derive(Clone, Copy, Debug, PartialEq, Eq)]
 pub enum Key {
     SourceVpc,
     Prefix,
@@ -46,14 +46,14 @@ pub enum Key {
 }
 
 // What a key holds, and what a list of a condition on it is made of: values or networks.
-#[derive(Clone, Copy)]
+#[derive(Clone, Copy, Debug, PartialEq, Eq)]
 pub enum Sort {
     Text,
     Address,
 }
 
 // What a record says. The bytes of a value stand beside its item.
-#[derive(Clone, Copy)]
+#[derive(Clone, Copy, Debug, PartialEq, Eq)]
 pub enum Item {
     // The number of statements.
     Start(u8),
@@ -64,12 +64,6 @@ pub enum Item {
     Network(u32, u8),
     Value,
     End,
-}
-
-#[derive(Clone, Copy)]
-pub enum FoundKey {
-    Known(Key),
-    Unknown,
 }
 
 // The code of an effect.
@@ -137,17 +131,17 @@ pub fn key_code(key: Key) -> u8
     }
 }
 
-// The key with a code.
-pub(crate) fn key_of(code: u8) -> FoundKey
+// The key with a code, where one has it.
+pub(crate) fn key_of(code: u8) -> Option<Key>
     ensures { result ≡ key_of code }
 {
     match code {
-        0 => FoundKey::Known(Key::SourceVpc),
-        1 => FoundKey::Known(Key::Prefix),
-        2 => FoundKey::Known(Key::SourceVpce),
-        3 => FoundKey::Known(Key::Referer),
-        4 => FoundKey::Known(Key::SourceIp),
-        _ => FoundKey::Unknown,
+        0 => Some(Key::SourceVpc),
+        1 => Some(Key::Prefix),
+        2 => Some(Key::SourceVpce),
+        3 => Some(Key::Referer),
+        4 => Some(Key::SourceIp),
+        _ => None,
     }
 }
 

@@ -2,15 +2,16 @@
 // 01's order is: what the kind alone decides (module order: 4 after the end, 3, 5, 4), and what the whole record decides (module taking: 4,
 // 6, 7, 8).
 ghost use Rattle.std.specs.Prelude.{◌≡◌};
-ghost use Rattle.stored.specs.Machine.{fresh_state, is_ended, kind_of_item, admit_item};
+ghost use Rattle.stored.specs.Machine.{as_turn, fresh_state, is_ended, kind_of_item, admit_item};
 
 use crate::items::{Item, Sort};
 use crate::order::due;
 use crate::records::Kind;
 use crate::taking::take_turn;
+use refusals::Reason;
 
 // What was read last.
-#[derive(Clone, Copy)]
+#[derive(Clone, Copy, Debug, PartialEq, Eq)]
 pub enum Phase {
     Fresh,
     // The number of statements.
@@ -24,7 +25,7 @@ pub enum Phase {
     Ended,
 }
 
-#[derive(Clone, Copy)]
+#[derive(Clone, Copy, Debug, PartialEq, Eq)]
 pub struct State {
     pub phase: Phase,
     // Statements announced, and those still to come.
@@ -37,12 +38,6 @@ pub struct State {
     pub waiting: bool,
     // What the list at hand is made of.
     pub sort: Sort,
-}
-
-#[derive(Clone, Copy)]
-pub enum Turn {
-    Next(State),
-    Refused(u8),
 }
 
 pub(crate) fn fresh() -> State
@@ -62,16 +57,7 @@ pub(crate) fn fresh() -> State
 pub(crate) fn is_ended(phase: Phase) -> bool
     ensures { result ≡ is_ended phase }
 {
-    match phase {
-        Phase::Fresh => false,
-        Phase::Counted => false,
-        Phase::Opened => false,
-        Phase::Principals => false,
-        Phase::Actions => false,
-        Phase::Resources => false,
-        Phase::Conditions => false,
-        Phase::Ended => true,
-    }
+    matches!(phase, Phase::Ended)
 }
 
 // The kind of an item's record.
@@ -90,12 +76,9 @@ pub(crate) fn kind_of_item(item: Item, length: usize) -> Kind
 }
 
 // The state machine: the next state, or the refusal.
-pub(crate) fn admit(state: State, item: Item, bytes: &[u8]) -> Turn
-    ensures { result ≡ admit_item state item bytes.now }
+pub(crate) fn admit(state: State, item: Item, bytes: &[u8]) -> Result<State, Reason>
+    ensures { as_turn result ≡ admit_item state item bytes.now }
 {
-    let fault = due(state, kind_of_item(item, bytes.len()));
-    if fault == 0 {
-        return take_turn(state, item, bytes);
-    }
-    Turn::Refused(fault)
+    due(state, kind_of_item(item, bytes.len()))?;
+    take_turn(state, item, bytes)
 }

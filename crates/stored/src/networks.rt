@@ -6,12 +6,5 @@ ghost use Rattle.stored.specs.Networks.{network_sound};
 pub(crate) fn is_sound_network(address: u32, length: u8) -> bool
     ensures { result ≡ network_sound address length }
 {
-    if 32 < length {
-        return false;
-    }
-    if address == 0 {
-        return true;
-    }
-    let low = 32 - length;
-    (low as u32) <= u32::trailing_zeros(address)
+    length <= 32 && (address == 0 || 32 - u32::from(length) <= address.trailing_zeros())
 }

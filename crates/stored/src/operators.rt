@@ -5,7 +5,7 @@ ghost use Rattle.stored.specs.Machinery.OperatorTable.{row_place};
 
 use crate::items::{Operator, Sort};
 
-#[derive(Clone, Copy)]
+#[derive(Clone, Copy, Debug, PartialEq, Eq)]
 pub struct OperatorRow {
     pub code: u8,
     pub operator: Operator,
@@ -17,12 +17,6 @@ pub struct OperatorRow {
     pub literal: bool,
     // What it says of an absent key.
     pub absent: bool,
-}
-
-#[derive(Clone, Copy)]
-pub enum FoundOperator {
-    Known(Operator),
-    Unknown,
 }
 
 const OPERATORS: [OperatorRow; 12] = [
@@ -153,17 +147,16 @@ pub fn operator_row(operator: Operator) -> OperatorRow
 }
 
 // The operator with a code: the first row that has it.
-pub(crate) fn operator_of(code: u8) -> FoundOperator
+pub(crate) fn operator_of(code: u8) -> Option<Operator>
     ensures { result ≡ operator_of code }
 {
     let mut i: usize = 0;
     while i < 12 {
         let row = OPERATORS[i];
         if row.code == code {
-            let operator = row.operator;
-            return FoundOperator::Known(operator);
+            return Some(row.operator);
         }
         i += 1;
     }
-    FoundOperator::Unknown
+    None
 }

@@ -1,86 +1,67 @@
 // The reader: every record in order, from a fresh state, until the first faulty record or the end.
 ghost use Rattle.std.specs.Prelude.{◌≡◌};
-ghost use Rattle.stored.specs.Reading.{finish_of, taken_of, step_at, reading};
+ghost use Rattle.stored.specs.Reading.{as_read, as_step, finish_of, taken_of, step_at, reading};
 
 use crate::limits::MOST_BYTES;
-use crate::machine::{State, Turn, fresh, is_ended};
+use crate::machine::{State, fresh, is_ended};
 use crate::order::due;
-use crate::records::{Record, byte_at, kind_of, record_at};
+use crate::records::{byte_at, kind_of, record_at};
 use crate::taking::take_turn;
-
-// What reading a table finds.
-#[derive(Clone, Copy)]
-pub enum ReadAnswer {
-    // The number of statements.
-    Accepted(u8),
-    // The number of the refusal, and its place.
-    Refused(u8, usize),
-}
-
-// What one record leads to.
-#[derive(Clone, Copy)]
-pub enum Step {
-    // The next state, and the next place.
-    Goes(State, usize),
-    Stops(u8),
-}
+use refusals::{Reason, Refusal};
 
 // The bytes end here.
-fn finish(state: State, at: usize) -> ReadAnswer
-    ensures { result ≡ finish_of state at }
+fn finish(state: State, at: usize) -> Result<u8, Refusal>
+    ensures { as_read result ≡ finish_of state at }
 {
-    let phase = state.phase;
-    if is_ended(phase) {
-        return ReadAnswer::Accepted(state.rows);
+    if is_ended(state.phase) {
+        Ok(state.rows)
+    } else {
+        Err(Refusal {
+            reason: Reason::Cut,
+            place: at,
+        })
     }
-    ReadAnswer::Refused(2, at)
 }
 
 // A record whose kind is in turn.
-fn taken(state: State, table: &[u8], at: usize) -> Step
-    ensures { result ≡ taken_of state table.now at }
+fn taken(state: State, table: &[u8], at: usize) -> Result<(State, usize), Reason>
+    ensures { as_step result ≡ taken_of state table.now at }
 {
-    match record_at(table, at) {
-        Record::Is(item, start, length) => {
-            let end = start + length;
-            match take_turn(state, item, &table[start..end]) {
-                Turn::Next(next) => Step::Goes(next, end),
-                Turn::Refused(number) => Step::Stops(number),
-            }
-        }
-        Record::Cut => Step::Stops(2),
-        Record::Strange => Step::Stops(3),
-    }
+    let record = record_at(table, at)?;
+    let start = record.start;
+    let end = start + record.size;
+    let next = take_turn(state, record.item, &table[start..end])?;
+    Ok((next, end))
 }
 
-// The record at a place.
-fn step_at(state: State, table: &[u8], at: usize) -> Step
-    ensures { result ≡ step_at state table.now at }
+// The record at a place: the next state and the next place.
+fn step_at(state: State, table: &[u8], at: usize) -> Result<(State, usize), Reason>
+    ensures { as_step result ≡ step_at state table.now at }
 {
-    let fault = due(state, kind_of(byte_at(table, at)));
-    if fault == 0 {
-        return taken(state, table, at);
-    }
-    Step::Stops(fault)
+    due(state, kind_of(byte_at(table, at)))?;
+    taken(state, table, at)
 }
 
 // Reads any byte string as a table: the number of its statements, or the first refusal and its place.
-pub fn read(table: &[u8]) -> ReadAnswer
-    ensures { result ≡ reading table.now }
+pub fn read(table: &[u8]) -> Result<u8, Refusal>
+    ensures { as_read result ≡ reading table.now }
 {
     if MOST_BYTES < table.len() {
-        return ReadAnswer::Refused(1, MOST_BYTES);
+        return Err(Refusal {
+            reason: Reason::TooLong,
+            place: MOST_BYTES,
+        });
     }
     let mut state = fresh();
     let mut at: usize = 0;
     while at < table.len() {
         match step_at(state, table, at) {
-            Step::Goes(next, place) => {
+            Ok((next, place)) => {
                 state = next;
                 at = place;
             }
-            Step::Stops(number) => {
-                return ReadAnswer::Refused(number, at);
+            Err(reason) => {
+                return Err(Refusal { reason, place: at });
             }
         }
     }

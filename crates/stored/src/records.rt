@@ -1,11 +1,12 @@
 // One record: its kind, the size of its body, what the body says, and the record at a place of a table.
 ghost use Rattle.std.specs.Prelude.{◌≡◌, ◌≤◌, length, get_or};
-ghost use Rattle.stored.specs.Records.{kind_of, size_of, statement_of, column_of, condition_of, network_of, decode_of, record_behind, record_at};
+ghost use Rattle.stored.specs.Records.{as_record, kind_of, size_of, statement_of, column_of, condition_of, network_of, decode_of, record_behind, record_at};
 
-use crate::items::{Column, Effect, FoundKey, Item, key_of};
-use crate::operators::{FoundOperator, operator_of};
+use crate::items::{Column, Effect, Item, key_of};
+use crate::operators::operator_of;
+use refusals::Reason;
 
-#[derive(Clone, Copy)]
+#[derive(Clone, Copy, Debug, PartialEq, Eq)]
 pub enum Kind {
     Start,
     Statement,
@@ -18,30 +19,42 @@ pub enum Kind {
     Unknown,
 }
 
-// What a body says.
-#[derive(Clone, Copy)]
-pub enum Decoded {
-    Known(Item),
+// The record at a place: its item, where its body starts and how long that is (the next record is behind it).
+#[derive(Clone, Copy, Debug, PartialEq, Eq)]
+pub struct Record {
+    pub item: Item,
+    pub start: usize,
+    pub size: usize,
+}
+
+// Why no record is at a place.
+#[derive(Clone, Copy, Debug, PartialEq, Eq)]
+pub enum RecordFault {
+    // The bytes end inside it or before it.
+    Cut,
+    // Its kind or one of its codes is unknown.
     Strange,
 }
 
-// The record at a place: its item, where its body starts and how long that is (the next record is behind it); or the bytes end
-// inside it or before it; or its kind or one of its codes is unknown.
-#[derive(Clone, Copy)]
-pub enum Record {
-    Is(Item, usize, usize),
-    Cut,
-    Strange,
+impl From<RecordFault> for Reason {
+    ghost use Rattle.std.specs.Prelude.{◌≡◌};
+    ghost use Rattle.stored.specs.Records.{reason_of};
+
+    ghost from_gives = { λ fault reason. reason ≡ reason_of fault };
+
+    fn from(fault: RecordFault) -> Reason {
+        match fault {
+            RecordFault::Cut => Reason::Cut,
+            RecordFault::Strange => Reason::Unknown,
+        }
+    }
 }
 
 // The byte at an index, 0 past the end.
 pub fn byte_at(bytes: &[u8], i: usize) -> u8
     ensures { result ≡ get_or bytes.now i 0 }
 {
-    if i < bytes.len() {
-        return bytes[i];
-    }
-    0
+    if i < bytes.len() { bytes[i] } else { 0 }
 }
 
 // The kind that a byte stands for.
@@ -55,7 +68,7 @@ pub fn kind_of(byte: u8) -> Kind
         0x04 => Kind::Condition,
         0x05 => Kind::End,
         0x06 => Kind::Network,
-        0x40..=0xBF => Kind::Value((byte - 0x3F) as usize),
+        0x40..=0xBF => Kind::Value(usize::from(byte - 0x3F)),
         _ => Kind::Unknown,
     }
 }
@@ -77,98 +90,95 @@ pub fn size_of(kind: Kind) -> usize
 }
 
 // What the body of a statement's record says.
-fn statement_of(code: u8) -> Decoded
+fn statement_of(code: u8) -> Option<Item>
     ensures { result ≡ statement_of code }
 {
     match code {
-        0 => Decoded::Known(Item::Statement(Effect::Deny)),
-        1 => Decoded::Known(Item::Statement(Effect::Allow)),
-        _ => Decoded::Strange,
+        0 => Some(Item::Statement(Effect::Deny)),
+        1 => Some(Item::Statement(Effect::Allow)),
+        _ => None,
     }
 }
 
 // What the body of a column's record says.
-fn column_of(code: u8) -> Decoded
+fn column_of(code: u8) -> Option<Item>
     ensures { result ≡ column_of code }
 {
     match code {
-        0x00 => Decoded::Known(Item::Column(Column::Principal)),
-        0x01 => Decoded::Known(Item::Column(Column::Action)),
-        0x02 => Decoded::Known(Item::Column(Column::Resource)),
-        0x10 => Decoded::Known(Item::Column(Column::NotPrincipal)),
-        0x11 => Decoded::Known(Item::Column(Column::NotAction)),
-        0x12 => Decoded::Known(Item::Column(Column::NotResource)),
-        _ => Decoded::Strange,
+        0x00 => Some(Item::Column(Column::Principal)),
+        0x01 => Some(Item::Column(Column::Action)),
+        0x02 => Some(Item::Column(Column::Resource)),
+        0x10 => Some(Item::Column(Column::NotPrincipal)),
+        0x11 => Some(Item::Column(Column::NotAction)),
+        0x12 => Some(Item::Column(Column::NotResource)),
+        _ => None,
     }
 }
 
 // What the body of a condition's record says.
-fn condition_of(operator: u8, key: u8) -> Decoded
+fn condition_of(operator: u8, key: u8) -> Option<Item>
     ensures { result ≡ condition_of operator key }
 {
-    let found = operator_of(operator);
-    let named = key_of(key);
-    match found {
-        FoundOperator::Known(o) => match named {
-            FoundKey::Known(k) => Decoded::Known(Item::Condition(o, k)),
-            FoundKey::Unknown => Decoded::Strange,
-        },
-        FoundOperator::Unknown => Decoded::Strange,
-    }
+    Some(Item::Condition(operator_of(operator)?, key_of(key)?))
 }
 
 // What the body of a network's record says: the address, high byte first, and the prefix length.
 fn network_of(a: u8, b: u8, c: u8, d: u8, length: u8) -> Item
     ensures { result ≡ network_of a b c d length }
 {
-    let address = (a as u32) * 0x1000000 + (b as u32) * 0x10000 + (c as u32) * 0x100 + (d as u32);
+    let address = u32::from(a) * 0x1000000
+        + u32::from(b) * 0x10000
+        + u32::from(c) * 0x100
+        + u32::from(d);
     Item::Network(address, length)
 }
 
 // What the body of a kind says.
-fn decode(kind: Kind, body: &[u8]) -> Decoded
+fn decode(kind: Kind, body: &[u8]) -> Option<Item>
     ensures { result ≡ decode_of kind body.now }
 {
     match kind {
-        Kind::Start => Decoded::Known(Item::Start(byte_at(body, 0))),
+        Kind::Start => Some(Item::Start(byte_at(body, 0))),
         Kind::Statement => statement_of(byte_at(body, 0)),
         Kind::Column => column_of(byte_at(body, 0)),
         Kind::Condition => condition_of(byte_at(body, 0), byte_at(body, 1)),
-        Kind::End => Decoded::Known(Item::End),
-        Kind::Network => Decoded::Known(network_of(
+        Kind::End => Some(Item::End),
+        Kind::Network => Some(network_of(
             byte_at(body, 0),
             byte_at(body, 1),
             byte_at(body, 2),
             byte_at(body, 3),
             byte_at(body, 4),
         )),
-        Kind::Value(_) => Decoded::Known(Item::Value),
-        Kind::Unknown => Decoded::Strange,
+        Kind::Value(_) => Some(Item::Value),
+        Kind::Unknown => None,
     }
 }
 
 // The record whose kind is known and whose body starts at a place.
-fn record_behind(table: &[u8], start: usize, kind: Kind) -> Record
+fn record_behind(table: &[u8], start: usize, kind: Kind) -> Result<Record, RecordFault>
     requires { start ≤ length table.now }
-    ensures { result ≡ record_behind table.now start kind }
+    ensures { as_record result ≡ record_behind table.now start kind }
 {
     let size = size_of(kind);
     if table.len() - start < size {
-        return Record::Cut;
+        return Err(RecordFault::Cut);
     }
     let end = start + size;
     match decode(kind, &table[start..end]) {
-        Decoded::Known(item) => Record::Is(item, start, size),
-        Decoded::Strange => Record::Strange,
+        Some(item) => Ok(Record { item, start, size }),
+        None => Err(RecordFault::Strange),
     }
 }
 
 // The record at a place of any byte string.
-pub fn record_at(table: &[u8], at: usize) -> Record
-    ensures { result ≡ record_at table.now at }
+#[tactic(auto, unfolding(crate::specs::Records::record_at))]
+pub fn record_at(table: &[u8], at: usize) -> Result<Record, RecordFault>
+    ensures { as_record result ≡ record_at table.now at }
 {
     if at < table.len() {
-        return record_behind(table, at + 1, kind_of(table[at]));
+        record_behind(table, at + 1, kind_of(table[at]))
+    } else {
+        Err(RecordFault::Cut)
     }
-    Record::Cut
 }

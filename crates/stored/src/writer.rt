@@ -1,35 +1,21 @@
 // The writer: items one at a time, each refused as the reader would refuse its record at that point, then 1, then 14.
 ghost use Rattle.std.specs.Prelude.{◌≡◌, ◌+◌, ◌≤◌, [], length};
 ghost use Rattle.std.proofs.lemmas.List.Edits.{sets};
-ghost use Rattle.stored.specs.Writing.{fresh_writer, record_of, placing, writing, buffer_after, would_write};
+ghost use Rattle.stored.specs.Machine.Turn.{Next};
+ghost use Rattle.stored.specs.Writing.{as_written, as_would, fresh_writer, record_of, placing, writing, buffer_after, would_write};
 ghost use Rattle.stored.specs.Machinery.Placing.{HasKind};
 
 use crate::items::{Item, column_code, effect_code, key_code};
 use crate::limits::MOST_BYTES;
-use crate::machine::{State, Turn, admit, fresh};
+use crate::machine::{State, admit, fresh};
 use crate::operators::operator_row;
+use refusals::{Reason, Refusal};
 
 // A writer between two items: the state machine's state, and the bytes written so far.
-#[derive(Clone, Copy)]
+#[derive(Clone, Copy, Debug, PartialEq, Eq)]
 pub struct Writer {
     pub state: State,
     pub at: usize,
-}
-
-#[derive(Clone, Copy)]
-pub enum WriteAnswer {
-    Added(Writer),
-    // The number of the refusal, and its place.
-    Refused(u8, usize),
-}
-
-// What a writer would answer without a buffer.
-#[derive(Clone, Copy)]
-pub enum Would {
-    // The next state, and the length of the record.
-    Takes(State, usize),
-    // The number of the refusal.
-    Refused(u8),
 }
 
 // A writer that has written nothing.
@@ -125,24 +111,33 @@ fn put_record(buffer: &mut [u8], at: usize, item: Item, bytes: &[u8])
 }
 
 // An item that the state machine takes: 1, then 14, then its record is laid down.
-fn place(next: State, at: usize, item: Item, bytes: &[u8], buffer: &mut [u8]) -> WriteAnswer
+fn place(
+    next: State,
+    at: usize,
+    item: Item,
+    bytes: &[u8],
+    buffer: &mut [u8],
+) -> Result<Writer, Refusal>
     requires { HasKind item (length bytes.now) }
-    ensures answer { result ≡ placing at (Turn.Next next) (length (record_of item bytes.now)) (length buffer.old) }
-    ensures laid { buffer.new ≡ buffer_after at (record_of item bytes.now) buffer.old result }
+    ensures answer { as_written result ≡ placing at (Next next) (length (record_of item bytes.now)) (length buffer.old) }
+    ensures laid { buffer.new ≡ buffer_after at (record_of item bytes.now) buffer.old (as_written result) }
 {
     let size = record_length(item, bytes);
-    if MOST_BYTES < at {
-        return WriteAnswer::Refused(1, MOST_BYTES);
-    }
-    if MOST_BYTES - at < size {
-        return WriteAnswer::Refused(1, MOST_BYTES);
+    if MOST_BYTES < at || MOST_BYTES - at < size {
+        return Err(Refusal {
+            reason: Reason::TooLong,
+            place: MOST_BYTES,
+        });
     }
     let end = at + size;
     if buffer.len() < end {
-        return WriteAnswer::Refused(14, 0);
+        return Err(Refusal {
+            reason: Reason::NoRoom,
+            place: 0,
+        });
     }
     put_record(buffer, at, item, bytes);
-    WriteAnswer::Added(Writer {
+    Ok(Writer {
         state: next,
         at: end,
     })
@@ -150,24 +145,23 @@ fn place(next: State, at: usize, item: Item, bytes: &[u8], buffer: &mut [u8]) ->
 
 // Writes one item. An accepted item adds its record behind the last and changes no other byte; a refused one changes neither
 // buffer nor state.
-pub fn write(writer: Writer, item: Item, bytes: &[u8], buffer: &mut [u8]) -> WriteAnswer
-    ensures answer { result ≡ writing writer item bytes.now (length buffer.old) }
-    ensures laid { buffer.new ≡ buffer_after writer.at (record_of item bytes.now) buffer.old result }
+pub fn write(writer: Writer, item: Item, bytes: &[u8], buffer: &mut [u8]) -> Result<Writer, Refusal>
+    ensures answer { as_written result ≡ writing writer item bytes.now (length buffer.old) }
+    ensures laid { buffer.new ≡ buffer_after writer.at (record_of item bytes.now) buffer.old (as_written result) }
 {
-    let state = writer.state;
-    let at = writer.at;
-    match admit(state, item, bytes) {
-        Turn::Next(next) => place(next, at, item, bytes, buffer),
-        Turn::Refused(number) => WriteAnswer::Refused(number, at),
+    match admit(writer.state, item, bytes) {
+        Ok(next) => place(next, writer.at, item, bytes, buffer),
+        Err(reason) => Err(Refusal {
+            reason,
+            place: writer.at,
+        }),
     }
 }
 
 // What an item would lead to: the next state and the length of its record, or the refusal that a writer in this state gives before 1 and 14.
-pub fn would_write(state: State, item: Item, bytes: &[u8]) -> Would
-    ensures { result ≡ would_write state item bytes.now }
+pub fn would_write(state: State, item: Item, bytes: &[u8]) -> Result<(State, usize), Reason>
+    ensures { as_would result ≡ would_write state item bytes.now }
 {
-    match admit(state, item, bytes) {
-        Turn::Next(next) => Would::Takes(next, record_length(item, bytes)),
-        Turn::Refused(number) => Would::Refused(number),
-    }
+    let next = admit(state, item, bytes)?;
+    Ok((next, record_length(item, bytes)))
 }

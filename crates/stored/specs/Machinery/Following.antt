@@ -1,9 +1,7 @@
 -- Entries that the state machine takes one after the other, from a state to the end of a table.
 use Rattle.std.specs.Prelude.{◌≡◌, true, List, [], ◌∷◌}
-use Rattle.stored.specs.Machine.{fresh_state, is_ended, admit_item}
+use Rattle.stored.specs.Machine.{Turn as T, Turn, fresh_state, is_ended, admit_item}
 use Rattle.stored.specs.declared.machine.State.{State}
-use Rattle.stored.specs.declared.machine.Turn.{Turn}
-use Rattle.stored.specs.declared.machine.Turn.TheVariants as T
 use Rattle.stored.specs.Entries.{Entry, bytes_of, item_of}
 
 -- the state machine on entries

@@ -1,19 +1,19 @@
 -- `stored::machine::admit` meets its contract: what the kind decides comes first, then what the whole record decides, as in `admit_item`.
-use mathlib.Core.Path.{sym, ◌∙◌}
-use borrow.Author.Tests.{eq-eqb, ne_eqb}
-use Rattle.stored.specs.Machine.{admit_item}
+use Rattle.std.proofs.Common.{sym, ap, ◌∙◌}
+use Rattle.std.proofs.lemmas.Result.{err_from_is_err_and}
+use Rattle.stored.specs.Machine.{due_of, admit_item}
+use Rattle.stored.proofs.Faults.{numbered}
 use Rattle.stored.proofs.machine.admit.Goals as goal
 
-pub returns-then-fault-eq0 : goal.returns-then-fault-eq0
+pub returns-in_err-due : goal.returns-in_err-due
 unfolding admit_item
-returns-then-fault-eq0 c =
-    simp (
-      eq-eqb _ _ (rw c.kind_of_item.ensures at (sym c.due-fault.ensures ∙ c.if-fault-eq0.true)),
-      c.take_turn.ensures,
-    )
+returns-in_err-due c =
+    let p = err_from_is_err_and c.from_residual.result c.from_residual.ensures.1 in
+    let due = c.in_err-due.ensures ∙ ap (due_of c.args.state) c.kind_of_item.ensures in
+    rw (p.1, p.2, ← due, numbered)
 
 pub returns : goal.returns
 unfolding admit_item
 returns c =
-    let due = rw c.kind_of_item.ensures at c.due-fault.ensures in
-    simp (ne_eqb _ _ (λ e. c.if-fault-eq0.false (due ∙ e)), due)
+    let due = c.in_ok-due.ensures ∙ ap (due_of c.args.state) c.kind_of_item.ensures in
+    rw (← due) c.take_turn.ensures

@@ -1,17 +1,19 @@
 -- `stored::reader::step_at` meets its contract: the test is that of `step_at`.
-use mathlib.Core.Path.{sym, ◌∙◌}
-use borrow.Author.Tests.{eq-eqb, ne_eqb}
+use Rattle.std.proofs.Common.{sym, ap, ◌∙◌}
+use Rattle.std.proofs.lemmas.Result.{err_from_is_err_and}
 use Rattle.stored.specs.Reading.{step_at}
+use Rattle.stored.proofs.Faults.{numbered}
 use Rattle.stored.proofs.reader.step_at.Goals as goal
 
-pub returns-then-fault-eq0 : goal.returns-then-fault-eq0
+pub returns-in_err-due : goal.returns-in_err-due
 unfolding step_at
-returns-then-fault-eq0 c =
-    let due = rw (c.kind_of.ensures, c.byte_at.ensures) at c.due-fault.ensures in
-    simp (eq-eqb _ _ (sym due ∙ c.if-fault-eq0.true), c.taken.ensures)
+returns-in_err-due c =
+    let p = err_from_is_err_and c.from_residual.result c.from_residual.ensures.1 in
+    let due = rw (c.kind_of.ensures, c.byte_at.ensures) at c.in_err-due.ensures in
+    rw (p.1, p.2, ← due, numbered)
 
 pub returns : goal.returns
 unfolding step_at
 returns c =
-    let due = rw (c.kind_of.ensures, c.byte_at.ensures) at c.due-fault.ensures in
-    simp (ne_eqb _ _ (λ e. c.if-fault-eq0.false (due ∙ e)), due)
+    let due = rw (c.kind_of.ensures, c.byte_at.ensures) at c.in_ok-due.ensures in
+    rw (← due) c.taken.ensures
