@@ -21,10 +21,7 @@ use Rattle.comparing.specs.Gaps.{FirstOf, Counted, IsGap}
 use Rattle.comparing.specs.Compared.{workspace_words, value_bytes, value_room, Compared, bytes_in, laid, shape_of, request_shown, keeps, Shown}
 use Rattle.comparing.specs.Outcomes.{IsTable, Comparable, WithinColumns, short, first_table, second_table, wide, crowded, many_kinds, answered, CountOutcome, GapAnswer, behind, shows, GapOutcome}
 use Rattle.comparing.specs.Means.{CountMeans, ShownMeans}
-use Rattle.comparing.specs.declared.answers.Counting.TheVariants as C
-use Rattle.comparing.specs.declared.answers.Shape.{Shape}
-use Rattle.comparing.specs.declared.answers.Showing.{Showing}
-use Rattle.comparing.specs.declared.answers.Showing.TheVariants as S
+use Rattle.comparing.specs.Answers.{Counting as C, Shape, Showing, Showing as S}
 use Rattle.comparing.proofs.Unique.{firsts-admitted, counted-unique}
 use Rattle.comparing.proofs.Alike.{each-length}
 use Rattle.comparing.proofs.Judged.{judged-exactly}

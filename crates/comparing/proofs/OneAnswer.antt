@@ -23,10 +23,7 @@ use Rattle.comparing.specs.Requests.{Admitted}
 use Rattle.comparing.specs.Gaps.{footprint}
 use Rattle.comparing.specs.Columns.{IsString, Few, TooMany}
 use Rattle.comparing.specs.Compared.{workspace_words, value_bytes, most_kinds, first_wide, Crowded, Uncrowded, CountsFrom, product, FromKinds, FromStates, FromTables, Answered, IsCount, Compared, first_long, shape_of, laid, IsShown, IsAnswer, keeps, Shown}
-use Rattle.comparing.specs.declared.answers.Counting.{Counting}
-use Rattle.comparing.specs.declared.answers.Counting.TheVariants as C
-use Rattle.comparing.specs.declared.answers.Showing.{Showing}
-use Rattle.comparing.specs.declared.answers.Showing.TheVariants as S
+use Rattle.comparing.specs.Answers.{Counting, Counting as C, Showing, Showing as S}
 use Rattle.comparing.proofs.Unique.{counted-unique, gap-unique}
 use Rattle.comparing.proofs.Pigeonhole.{different-unique, not_more}
 

@@ -20,10 +20,7 @@ use Rattle.judging.specs.Judging.{rows_of}
 use Rattle.comparing.specs.Gaps.{IsGap}
 use Rattle.comparing.specs.Compared.{workspace_words, value_bytes, most_kinds, first_wide, Uncrowded, product, FromKinds, FromStates, FromWidths, FromTables, Answered, IsCount, Compared, laid, first_long, shape_of, keeps, IsShown, IsAnswer, Shown}
 use Rattle.comparing.specs.Outcomes.{NoneWide, Comparable, WithinColumns, Outcome, short, first_table, second_table, wide, crowded, many_kinds, answered, order_of, CountOutcome, order_of_count, GapAnswer, behind, shows, order_of_answer, GapOutcome, order_of_gap}
-use Rattle.comparing.specs.declared.answers.Counting.{Counting}
-use Rattle.comparing.specs.declared.answers.Counting.TheVariants as C
-use Rattle.comparing.specs.declared.answers.Showing.{Showing}
-use Rattle.comparing.specs.declared.answers.Showing.TheVariants as S
+use Rattle.comparing.specs.Answers.{Counting, Counting as C, Showing, Showing as S}
 use Rattle.comparing.proofs.compare.Lowest.{first-wide, none-wide, wide-first, none_first}
 use Rattle.comparing.proofs.show.ShortValues.{firsts-short}
 use Rattle.comparing.proofs.GapList.{gap-firsts}

@@ -23,11 +23,7 @@ use Rattle.comparing.specs.Gaps.{footprint, AlikeFrom, Gaps, Counted, IsGap}
 use Rattle.comparing.specs.Compared.{workspace_words, value_bytes, most_kinds, Compared, Shown}
 use Rattle.comparing.specs.Outcomes.{CountOutcome, order_of_count, GapOutcome, order_of_gap, number_of_count, number_of_gap, Left}
 use Rattle.comparing.specs.Means.{CountMeans, ShownMeans, Said, NotRefused}
-use Rattle.comparing.specs.declared.answers.Counting.{Counting}
-use Rattle.comparing.specs.declared.answers.Counting.TheVariants as C
-use Rattle.comparing.specs.declared.answers.Shape.{Shape}
-use Rattle.comparing.specs.declared.answers.Showing.{Showing}
-use Rattle.comparing.specs.declared.answers.Showing.TheVariants as S
+use Rattle.comparing.specs.Answers.{Counting, Counting as C, Shape, Showing, Showing as S}
 use Rattle.comparing.proofs.Requests
 use Rattle.comparing.proofs.Means
 use Rattle.comparing.proofs.kinds.FewGaps

@@ -26,10 +26,7 @@ use Rattle.columns.specs.Values.{values_in}
 use Rattle.comparing.specs.Gaps.{Gaps}
 use Rattle.comparing.specs.Compared.{workspace_words, value_bytes, most_kinds, first_wide, Crowded, Uncrowded, product, FromKinds, FromStates, FromTables, Answered, IsCount, Compared, first_long, shape_of, laid, IsShown, IsAnswer, keeps, Shown}
 use Rattle.comparing.specs.Machinery.Product.{gaps_among}
-use Rattle.comparing.specs.declared.answers.Counting.{Counting}
-use Rattle.comparing.specs.declared.answers.Counting.TheVariants as C
-use Rattle.comparing.specs.declared.answers.Showing.{Showing}
-use Rattle.comparing.specs.declared.answers.Showing.TheVariants as S
+use Rattle.comparing.specs.Answers.{Counting, Counting as C, Showing, Showing as S}
 use Rattle.comparing.proofs.kinds.Product.{product-gaps, counts-from}
 use Rattle.comparing.proofs.compare.Lowest.{none-wide}
 use Rattle.comparing.proofs.compare.NotWide.{narrow-codes}

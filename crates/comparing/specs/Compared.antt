@@ -11,11 +11,7 @@ use Rattle.judging.specs.Judging.{rows_of}
 use Rattle.columns.specs.Values.{values_in}
 use Rattle.comparing.specs.Gaps.{Counted, IsGap}
 use Rattle.comparing.specs.Columns.{is_wide, Few, TooMany, Footprints}
-use Rattle.comparing.specs.declared.answers.Counting.{Counting}
-use Rattle.comparing.specs.declared.answers.Counting.TheVariants as C
-use Rattle.comparing.specs.declared.answers.Shape.{Shape}
-use Rattle.comparing.specs.declared.answers.Showing.{Showing}
-use Rattle.comparing.specs.declared.answers.Showing.TheVariants as S
+use Rattle.comparing.specs.Answers.{Counting, Counting as C, Shape, Showing, Showing as S}
 
 -- the words that a workspace has at least, the bytes that a value buffer has at least, the most kinds, the room of a shown value
 abbrev pub workspace_words : ℕ

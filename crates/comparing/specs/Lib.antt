@@ -5,6 +5,7 @@ pub mod Requests
 pub mod Gaps
 pub mod Counts
 pub mod Columns
+pub mod Answers
 pub mod Compared
 pub mod Outcomes
 pub mod Means

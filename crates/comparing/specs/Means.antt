@@ -11,7 +11,7 @@ use Rattle.comparing.specs.Requests.{Each, IsRequest}
 use Rattle.comparing.specs.Gaps.{AlikeFrom, FirstOf, IsGap}
 use Rattle.comparing.specs.Compared.{value_bytes, value_room, bytes_in, laid, shape_of, request_shown}
 use Rattle.comparing.specs.Outcomes.{IsTable}
-use Rattle.comparing.specs.declared.answers.Shape.{Shape}
+use Rattle.comparing.specs.Answers.{Shape}
 
 -- two byte strings are tables that have n gaps
 pub record CountMeans (a b : List ℕ) (n : ℕ) : Type 0 where

@@ -10,10 +10,7 @@ use Rattle.judging.specs.Judging.{rows_of}
 use Rattle.comparing.specs.Gaps.{Counted, IsGap}
 use Rattle.comparing.specs.Columns.{is_wide}
 use Rattle.comparing.specs.Compared.{workspace_words, value_bytes, most_kinds, Crowded, Uncrowded, CountsFrom, product, IsCount, laid, shape_of, keeps, cleared}
-use Rattle.comparing.specs.declared.answers.Counting.{Counting}
-use Rattle.comparing.specs.declared.answers.Counting.TheVariants as C
-use Rattle.comparing.specs.declared.answers.Showing.{Showing}
-use Rattle.comparing.specs.declared.answers.Showing.TheVariants as S
+use Rattle.comparing.specs.Answers.{Counting, Counting as C, Showing, Showing as S}
 
 -- a byte string is a table: the reader accepts it
 abbrev pub IsTable : List ℕ → Type 0

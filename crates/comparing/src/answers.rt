@@ -1,31 +1,47 @@
 // The answers of the comparison.
-use judging::request::Present;
+use refusals::Reason;
 
-// The number of gaps.
-#[derive(Clone, Copy)]
-pub enum Counting {
-    Gaps(u64),
-    // The number of the refusal, the table (1, 2, or 0 for the comparison), and the place.
-    Refused(u8, u8, usize),
+// What a refusal speaks of: the comparison of both tables, or one of them.
+#[derive(Clone, Copy, Debug, PartialEq, Eq)]
+pub enum Side {
+    Comparison,
+    First,
+    Second,
 }
 
-// What a shown gap is, beside its bytes: the lengths of the values of columns 0 to 6, which keys are there, and the address.
-#[derive(Clone, Copy)]
+// The number of a side: 1 and 2 for the tables, 0 for the comparison.
+impl From<Side> for u8 {
+    ghost use Rattle.std.specs.Prelude.{◌≡◌};
+    ghost use Rattle.comparing.specs.Answers.{table_of};
+
+    ghost from_gives = { λ side number. number ≡ table_of side };
+
+    fn from(side: Side) -> u8 {
+        match side {
+            Side::Comparison => 0,
+            Side::First => 1,
+            Side::Second => 2,
+        }
+    }
+}
+
+// Why a question about two tables is refused, of which of them, and the place.
+#[derive(Clone, Copy, Debug, PartialEq, Eq)]
+pub struct Refused {
+    pub reason: Reason,
+    pub table: Side,
+    pub place: usize,
+}
+
+// What a shown gap is, beside its bytes: the lengths of the values of columns 0 to 6, and the address. A key that is absent has none.
+#[derive(Clone, Copy, Debug, PartialEq, Eq)]
 pub struct Shape {
     pub principal: usize,
     pub action: usize,
     pub resource: usize,
-    pub vpc: usize,
-    pub prefix: usize,
-    pub vpce: usize,
-    pub referer: usize,
-    pub present: Present,
-    pub address: u32,
-}
-
-#[derive(Clone, Copy)]
-pub enum Showing {
-    Shown(Shape),
-    // The number of the refusal, the table (1, 2, or 0 for the comparison), and the place.
-    Refused(u8, u8, usize),
+    pub vpc: Option<usize>,
+    pub prefix: Option<usize>,
+    pub vpce: Option<usize>,
+    pub referer: Option<usize>,
+    pub address: Option<u32>,
 }

@@ -20,24 +20,9 @@ use columns::ends::next_edge;
 use columns::limits::{ADDRESSES, NO_ADDRESS};
 use columns::plan::{Plans, lay_plans};
 use columns::prints::{Prints, absent_print, address_print, prints_of, state_print};
-use judging::request::Present;
 use states::limits::FIRST_BYTE;
 use states::rows::row_at;
 use states::strings::lay_string;
-
-// What is shown of a column of strings: whether it is there, and its length.
-#[derive(Clone, Copy)]
-pub struct ShownText {
-    pub present: bool,
-    pub length: usize,
-}
-
-// What is shown of column 7.
-#[derive(Clone, Copy)]
-pub struct ShownAddress {
-    pub present: bool,
-    pub address: u32,
-}
 
 // The lowest of the states from one on that has a footprint, or the number of states.
 fn find_state(
@@ -78,37 +63,30 @@ fn show_state(
     size: u64,
     print: u64,
     values: &mut [u8],
-) -> ShownText
+) -> usize
     requires { BothRead first.now second.now size × HasStates (rows_of first.now) (rows_of second.now) column words.now states
         × StartsAt (rows_of first.now ++ rows_of second.now) column from × (column < 7) × (prints_at ≤ length words.now)
         × (value_bytes ≤ length values.old) × ((s : List ℕ) × FirstWith (rows_of first.now) (rows_of second.now) column print (text s))
         × TextPlans first.now second.now column words.now plans }
-    ensures { LaysString (rows_of first.now) (rows_of second.now) column print values.old values.new result }
+    ensures { LaysString (rows_of first.now) (rows_of second.now) column print values.old values.new (Some result) }
 {
     let prints = prints_of(words, plans);
     let i = find_state(
         words, first, second, column, from, states, prints, size, print,
     );
-    let length = lay_string(words, i, states, values, column * VALUE_ROOM);
-    ShownText {
-        present: true,
-        length: length,
-    }
+    lay_string(words, i, states, values, column * VALUE_ROOM)
 }
 
 // The first of all strings, where nothing is listed.
-fn show_any(column: usize, values: &mut [u8]) -> ShownText
+fn show_any(column: usize, values: &mut [u8]) -> usize
     requires { (column < 7) × (value_bytes ≤ length values.old) }
-    ensures { LaidValue column values.old values.new result (text (0x21 ∷ [])) }
+    ensures { LaidValue column values.old values.new (Some result) (text (0x21 ∷ [])) }
 {
     values[column * VALUE_ROOM] = FIRST_BYTE;
-    ShownText {
-        present: true,
-        length: 1,
-    }
+    1
 }
 
-// The first value of a column of strings that shows a footprint, laid down in its place.
+// The first value that shows a footprint of a column that is always there, laid down in its place.
 fn show_text(
     words: &mut [u64],
     first: &[u8],
@@ -117,32 +95,63 @@ fn show_text(
     size: u64,
     print: u64,
     values: &mut [u8],
-) -> ShownText
+) -> usize
     requires { BothRead first.now second.now size × Narrow (rows_of first.now ++ rows_of second.now) column
-        × Few (values_in column (rows_of first.now ++ rows_of second.now)) × (column < 7) × (prints_at ≤ length words.old)
+        × Few (values_in column (rows_of first.now ++ rows_of second.now)) × (column < 3) × (prints_at ≤ length words.old)
+        × (value_bytes ≤ length values.old) × ((v : Value) × FirstWith (rows_of first.now) (rows_of second.now) column print v) }
+    ensures { Lays (rows_of first.now) (rows_of second.now) column print values.old values.new (Some result) }
+{
+    let found = states_of(words, first, second, column);
+    if found.positions == 0 {
+        return show_any(column, values);
+    }
+    let plans = lay_plans(words, first, second, column, true, found.own);
+    show_state(
+        words,
+        first,
+        second,
+        column,
+        1,
+        found.states,
+        plans,
+        size,
+        print,
+        values,
+    )
+}
+
+// The first value that shows a footprint of a column that holds a string key, laid down in its place, unless absence shows it.
+fn show_key(
+    words: &mut [u64],
+    first: &[u8],
+    second: &[u8],
+    column: usize,
+    size: u64,
+    print: u64,
+    values: &mut [u8],
+) -> Option<usize>
+    requires { BothRead first.now second.now size × Narrow (rows_of first.now ++ rows_of second.now) column
+        × Few (values_in column (rows_of first.now ++ rows_of second.now)) × (3 ≤ column) × (column < 7) × (prints_at ≤ length words.old)
         × (value_bytes ≤ length values.old) × ((v : Value) × FirstWith (rows_of first.now) (rows_of second.now) column print v) }
     ensures { Lays (rows_of first.now) (rows_of second.now) column print values.old values.new result }
 {
-    let found = states_of(words, first, second, column);
-    let states = found.states;
-    let plans = lay_plans(words, first, second, column, true, found.own);
-    if column < 3 {
-        if found.positions == 0 {
-            return show_any(column, values);
-        }
-        return show_state(
-            words, first, second, column, 1, states, plans, size, print, values,
-        );
-    }
     if absent_print(first, second, column, size) == print {
-        return ShownText {
-            present: false,
-            length: 0,
-        };
+        return None;
     }
-    show_state(
-        words, first, second, column, 0, states, plans, size, print, values,
-    )
+    let found = states_of(words, first, second, column);
+    let plans = lay_plans(words, first, second, column, true, found.own);
+    Some(show_state(
+        words,
+        first,
+        second,
+        column,
+        0,
+        found.states,
+        plans,
+        size,
+        print,
+        values,
+    ))
 }
 
 // The first address that shows a footprint, unless absence shows it: only address 0 and the ends of networks can be the first.
@@ -153,30 +162,21 @@ fn show_address(
     plans: Plans,
     size: u64,
     print: u64,
-) -> ShownAddress
+) -> Option<u32>
     requires { BothRead first.now second.now size × AddressPlans first.now second.now words.now plans × (prints_at ≤ length words.now) }
     ensures { ShowsAddress (rows_of first.now) (rows_of second.now) print result }
 {
     if absent_print(first, second, ADDRESSES, size) == print {
-        return ShownAddress {
-            present: false,
-            address: 0,
-        };
+        return None;
     }
     let mut x: u64 = 0;
     while x < NO_ADDRESS {
         if address_print(words, first, second, plans, size, x) == print {
-            return ShownAddress {
-                present: true,
-                address: x as u32,
-            };
+            return Some(x as u32);
         }
         x = next_edge(words, first, second, plans, x);
     }
-    ShownAddress {
-        present: false,
-        address: 0,
-    }
+    None
 }
 
 // The first 3,584 bytes are zero.
@@ -210,27 +210,20 @@ pub(crate) fn show_gap(
     let principal = show_text(words, first, second, 0, size, prints[0], values);
     let action = show_text(words, first, second, 1, size, prints[1], values);
     let resource = show_text(words, first, second, 2, size, prints[2], values);
-    let vpc = show_text(words, first, second, 3, size, prints[3], values);
-    let prefix = show_text(words, first, second, 4, size, prints[4], values);
-    let vpce = show_text(words, first, second, 5, size, prints[5], values);
-    let referer = show_text(words, first, second, 6, size, prints[6], values);
+    let vpc = show_key(words, first, second, 3, size, prints[3], values);
+    let prefix = show_key(words, first, second, 4, size, prints[4], values);
+    let vpce = show_key(words, first, second, 5, size, prints[5], values);
+    let referer = show_key(words, first, second, 6, size, prints[6], values);
     let plans = lay_plans(words, first, second, ADDRESSES, false, 0);
     let address = show_address(words, first, second, plans, size, prints[7]);
     Shape {
-        principal: principal.length,
-        action: action.length,
-        resource: resource.length,
-        vpc: vpc.length,
-        prefix: prefix.length,
-        vpce: vpce.length,
-        referer: referer.length,
-        present: Present {
-            vpc: vpc.present,
-            prefix: prefix.present,
-            vpce: vpce.present,
-            referer: referer.present,
-            address: address.present,
-        },
-        address: address.address,
+        principal,
+        action,
+        resource,
+        vpc,
+        prefix,
+        vpce,
+        referer,
+        address,
     }
 }

@@ -19,8 +19,8 @@ use Rattle.comparing.specs.Machinery.Kinds.{count_of, prints_in, prints_along, p
 use Rattle.comparing.specs.Machinery.Product.{prints_from, SidesOf, values_at}
 use Rattle.comparing.specs.Machinery.ShownValues.{RequestWith, LaysGap}
 use Rattle.comparing.specs.Machinery.Survey.{Listed, Surveyed}
-use Rattle.comparing.specs.declared.answers.Shape.{Shape}
-use Rattle.comparing.specs.declared.answers.Showing.TheVariants as S
+use Rattle.comparing.specs.Answers.{Shape, Showing as S, as_shape}
+use Rattle.comparing.specs.declared.answers.Shape.{Shape as Told}
 use Rattle.comparing.specs.declared.kinds.Sides.{Sides}
 use Rattle.comparing.specs.declared.survey.AllColumns.{AllColumns}
 use Rattle.comparing.proofs.show.AlongPath.{gap-request}
@@ -138,8 +138,8 @@ module _ (first second : List Statement) (sides : Sides) (told : SidesOf first s
 
       -- and its values are the answer
       pub answer-shown : (prints : List ℕ) → prints ≡ prints_along sides (prints_in words bounds 0) (2 ^ 64 - 1) k
-          → (buffer after : List ℕ) (shape : Shape) → LaysGap first second prints buffer after shape
-          → IsAnswer k buffer first second (S.Shown shape, after)
+          → (buffer after : List ℕ) (shape : Told) → LaysGap first second prints buffer after shape
+          → IsAnswer k buffer first second (S.Shown (as_shape shape), after)
       answer-shown prints e buffer after shape lays =
           let gap = lays request (with-prints prints e) in (
             count_of sides (prints_in words bounds 0) (2 ^ 64 - 1),

@@ -13,9 +13,7 @@ use Rattle.stored.specs.Tables.{Statement}
 use Rattle.stored.proofs.Promises.{refused-where}
 use Rattle.comparing.specs.Compared.{workspace_words, value_bytes, IsCount, Compared, keeps, Shown, cleared}
 use Rattle.comparing.specs.Outcomes.{Outcome, short, first_table, second_table, wide, crowded, many_kinds, answered, GapAnswer, behind, shows, number_of_count, number_of_gap, Left}
-use Rattle.comparing.specs.declared.answers.Counting.{Counting}
-use Rattle.comparing.specs.declared.answers.Counting.TheVariants as C
-use Rattle.comparing.specs.declared.answers.Showing.{Showing}
+use Rattle.comparing.specs.Answers.{Counting, Counting as C, Showing}
 use Rattle.comparing.proofs.Outcomes.{compared-exactly, shown-exactly}
 
 -- a question whose refusals have the numbers that `number` says, and whose answer has none that is 14; `test` is whether lent memory is

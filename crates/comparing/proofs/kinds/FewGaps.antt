@@ -18,7 +18,7 @@ use Rattle.comparing.specs.Counts.{Apart}
 use Rattle.comparing.specs.Compared.{most_kinds, CountsFrom, product, Compared}
 use Rattle.comparing.specs.Machinery.Product.{in_front, product_of}
 use Rattle.comparing.specs.Outcomes.{short, first_table, second_table, wide, crowded, many_kinds, answered, CountOutcome}
-use Rattle.comparing.specs.declared.answers.Counting.TheVariants as C
+use Rattle.comparing.specs.Answers.{Counting as C}
 use Rattle.comparing.proofs.Order.{earlier-asym}
 use Rattle.comparing.proofs.Unique.{firsts-unique, firsts-admitted}
 use Rattle.comparing.proofs.Pigeonhole.{fits}

@@ -31,7 +31,7 @@ use Rattle.comparing.specs.Columns.{Few}
 use Rattle.comparing.specs.Compared.{bytes_in}
 use Rattle.comparing.specs.Machinery.Product.{print_of}
 use Rattle.comparing.specs.Machinery.ShownValues.{FirstWith, StartsAt, FoundState, LaidValue, Lays, LaysString, NoneBelow}
-use Rattle.comparing.specs.declared.show.ShownText.{ShownText}
+use Rattle.std.specs.Prelude.{Option}
 use Rattle.comparing.proofs.survey.Admitting.{needed, is-needed, optional, is-optional}
 use Rattle.comparing.proofs.survey.AllStates.{empty-alone, states-many}
 use Rattle.comparing.proofs.Deciding.{state-decides}
@@ -228,7 +228,7 @@ module _ (first second : List Statement) where
   string-needed column print low (number m) v = absurd (needed column low (number m) v.least.ok)
 
   -- where only strings can have the footprint, laying the first of them is laying the first value
-  pub lays-value : (column print : ℕ) (before after : List ℕ) (r : ShownText)
+  pub lays-value : (column print : ℕ) (before after : List ℕ) (r : Option ℕ)
       → ((v : Value) → FirstWith first second column print v → (s : List ℕ) × (v ≡ text s))
       → LaysString first second column print before after r → Lays first second column print before after r
   lays-value column print before after r only laid v w =

@@ -2,6 +2,7 @@
 use Prim.Native.Nat.{ℕ, zero, suc, ◌+◌, ◌-◌, ◌*◌, ◌≤◌, ◌<◌}
 use mathlib.Core.Path.{◌≡◌, refl, sym, ◌∙◌, ap, ap₂}
 use mathlib.Core.Bool.{Bool}
+use Rattle.std.specs.Prelude.{Option, Some, is_some, unwrap_or}
 use mathlib.Core.List.{List, [], ◌∷◌, ◌++◌, append_assoc}
 use native.Mathlib.Omega.{arith}
 use lib.ListN.{length, drop, replicate, length-append, length-replicate, replicate-append-replicate}
@@ -14,9 +15,7 @@ use Rattle.comparing.specs.Requests.{Each, AdmitsAddress}
 use Rattle.comparing.specs.Gaps.{FirstOf}
 use Rattle.comparing.specs.Compared.{value_bytes, value_room, bytes_in, address_in, padded, laid, first_long}
 use Rattle.comparing.specs.Machinery.ShownValues.{LaidValue, LaidGap}
-use Rattle.comparing.specs.declared.answers.Shape.{Shape}
-use Rattle.comparing.specs.declared.show.ShownText.{ShownText}
-use Rattle.comparing.specs.declared.show.ShownAddress.{ShownAddress}
+use Rattle.comparing.specs.declared.answers.Shape.{Shape as Told}
 
 -- a value over zeros
 over_zeros : (s rest : List ℕ) (m : ℕ) → length s ≤ value_room → drop (length s) (replicate (value_room + m) 0 ++ rest) ≡ replicate (value_room - length s) 0 ++ (replicate m 0 ++ rest)
@@ -148,25 +147,17 @@ gap-laid first second (a ∷ (b ∷ (c ∷ (d ∷ (e ∷ (g ∷ (i ∷ (j ∷ (k
     too_many column (v ∷ request) over f = too_many (suc column) request (omega arith) f.1
 
 -- the shape told by what was shown of each column
-abbrev pub shape_from : ShownText → ShownText → ShownText → ShownText → ShownText → ShownText → ShownText → ShownAddress → Shape
-shape_from principal action resource vpc prefix vpce referer address =
+abbrev pub shape_from : (t0 t1 t2 : ℕ) (t3 t4 t5 t6 t7 : Option ℕ) → Told
+shape_from t0 t1 t2 t3 t4 t5 t6 t7 =
     record {
-      principal = principal.length;
-      action = action.length;
-      resource = resource.length;
-      vpc = vpc.length;
-      prefix = prefix.length;
-      vpce = vpce.length;
-      referer = referer.length;
-      present =
-          record {
-            vpc = vpc.present;
-            prefix = prefix.present;
-            vpce = vpce.present;
-            referer = referer.present;
-            address = address.present;
-          };
-      address = address.address;
+      principal = t0;
+      action = t1;
+      resource = t2;
+      vpc = t3;
+      prefix = t4;
+      vpce = t5;
+      referer = t6;
+      address = t7;
     }
 
 below-seven : (P : ℕ → Type 0) → P 0 → P 1 → P 2 → P 3 → P 4 → P 5 → P 6 → (i : ℕ) → i < 7 → P i
@@ -181,12 +172,12 @@ below-seven P a b c d e f g (suc (suc (suc (suc (suc (suc (suc i))))))) h = absu
 
 -- Seven values were laid over zeros, each as the first of its column, and the address was found: that is the gap.
 pub gap-shown : (first second : List Statement) (request : List Value) → Each (FirstOf first second) 0 request
-    → (buffer v0 v1 v2 v3 v4 v5 v6 v7 : List ℕ) (t0 t1 t2 t3 t4 t5 t6 : ShownText) (t7 : ShownAddress)
+    → (buffer v0 v1 v2 v3 v4 v5 v6 v7 : List ℕ) (t0 t1 t2 : ℕ) (t3 t4 t5 t6 t7 : Option ℕ)
     → v0 ≡ replicate value_bytes 0 ++ drop value_bytes buffer
-    → LaidValue 0 v0 v1 t0 (column_of request 0) → LaidValue 1 v1 v2 t1 (column_of request 1) → LaidValue 2 v2 v3 t2 (column_of request 2)
+    → LaidValue 0 v0 v1 (Some t0) (column_of request 0) → LaidValue 1 v1 v2 (Some t1) (column_of request 1) → LaidValue 2 v2 v3 (Some t2) (column_of request 2)
     → LaidValue 3 v3 v4 t3 (column_of request 3) → LaidValue 4 v4 v5 t4 (column_of request 4) → LaidValue 5 v5 v6 t5 (column_of request 5)
     → LaidValue 6 v6 v7 t6 (column_of request 6)
-    → (t7.present ≡ is_present (column_of request 7)) × (t7.address ≡ address_in (column_of request 7))
+    → (is_some t7 ≡ is_present (column_of request 7)) × (unwrap_or t7 0 ≡ address_in (column_of request 7))
     → LaidGap buffer v7 (shape_from t0 t1 t2 t3 t4 t5 t6 t7) request
 gap-shown first second request firsts buffer v0 v1 v2 v3 v4 v5 v6 v7 t0 t1 t2 t3 t4 t5 t6 t7 cleared a b c d e f g h =
     record {

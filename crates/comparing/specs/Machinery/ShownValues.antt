@@ -1,6 +1,6 @@
 -- What the functions that show a gap promise each other: in each column the first value that has the gap's footprint, laid down in its
 -- place in the value buffer.
-use Rattle.std.specs.Prelude.{ℕ, suc, ◌*◌, ◌≤◌, ◌<◌, ◌≡◌, List, [], ◌∷◌, ◌++◌, ltb, length, drop}
+use Rattle.std.specs.Prelude.{ℕ, suc, ◌*◌, ◌≤◌, ◌<◌, ◌≡◌, List, [], ◌∷◌, ◌++◌, Option, is_some, unwrap_or, ltb, length, drop}
 use Rattle.std.proofs.lemmas.List.Edits.{sets}
 use Rattle.stored.specs.Choice.{pick}
 use Rattle.stored.specs.Tables.{Statement}
@@ -11,9 +11,8 @@ use Rattle.comparing.specs.Requests.{Each}
 use Rattle.comparing.specs.Gaps.{FirstOf}
 use Rattle.comparing.specs.Compared.{value_bytes, value_room, bytes_in, address_in, laid, first_long, shape_of}
 use Rattle.comparing.specs.Machinery.Product.{print_of}
-use Rattle.comparing.specs.declared.answers.Shape.{Shape}
-use Rattle.comparing.specs.declared.show.ShownText.{ShownText}
-use Rattle.comparing.specs.declared.show.ShownAddress.{ShownAddress}
+use Rattle.comparing.specs.Answers.{as_shape}
+use Rattle.comparing.specs.declared.answers.Shape.{Shape as Told}
 
 -- v is the first value of a column that has a footprint
 pub record FirstWith (first second : List Statement) (column print : ℕ) (v : Value) : Type 0 where
@@ -32,25 +31,25 @@ pub record FoundState (first second : List Statement) (column : ℕ) (words : Li
   pub before : (j : ℕ) → from ≤ j → j < r → print_of first second column (text (string_of words j)) ≡ print → ⊥
 
 -- a value was laid down in its 512 bytes
-pub record LaidValue (column : ℕ) (before after : List ℕ) (r : ShownText) (v : Value) : Type 0 where
+pub record LaidValue (column : ℕ) (before after : List ℕ) (r : Option ℕ) (v : Value) : Type 0 where
   pub bytes : after ≡ sets before (column * value_room) (bytes_in v)
-  pub there : r.present ≡ is_present v
-  pub size : r.length ≡ length (bytes_in v)
+  pub there : is_some r ≡ is_present v
+  pub size : unwrap_or r 0 ≡ length (bytes_in v)
   pub short : length (bytes_in v) ≤ value_room
 
 -- the first value that has a footprint was laid down
-abbrev pub Lays : List Statement → List Statement → ℕ → ℕ → List ℕ → List ℕ → ShownText → Type 0
+abbrev pub Lays : List Statement → List Statement → ℕ → ℕ → List ℕ → List ℕ → Option ℕ → Type 0
 Lays first second column print before after r = (v : Value) → FirstWith first second column print v → LaidValue column before after r v
 
 -- and so was the first string
-abbrev pub LaysString : List Statement → List Statement → ℕ → ℕ → List ℕ → List ℕ → ShownText → Type 0
+abbrev pub LaysString : List Statement → List Statement → ℕ → ℕ → List ℕ → List ℕ → Option ℕ → Type 0
 LaysString first second column print before after r =
     (s : List ℕ) → FirstWith first second column print (text s) → LaidValue column before after r (text s)
 
 -- the first value of column 7 that has a footprint
-abbrev pub ShowsAddress : List Statement → List Statement → ℕ → ShownAddress → Type 0
+abbrev pub ShowsAddress : List Statement → List Statement → ℕ → Option ℕ → Type 0
 ShowsAddress first second print r =
-    (v : Value) → FirstWith first second 7 print v → (r.present ≡ is_present v) × (r.address ≡ address_in v)
+    (v : Value) → FirstWith first second 7 print v → (is_some r ≡ is_present v) × (unwrap_or r 0 ≡ address_in v)
 
 -- no address below x has a footprint
 abbrev pub NoneBelow : List Statement → List Statement → ℕ → ℕ → Type 0
@@ -67,10 +66,10 @@ pub record RequestWith (first second : List Statement) (prints : List ℕ) (requ
   pub printed : prints ≡ prints_of first second 0 request
 
 -- its values were laid over the first 3,584 bytes, and none was too long
-pub record LaidGap (before after : List ℕ) (r : Shape) (request : List Value) : Type 0 where
-  pub shape : r ≡ shape_of request
+pub record LaidGap (before after : List ℕ) (r : Told) (request : List Value) : Type 0 where
+  pub shape : as_shape r ≡ shape_of request
   pub bytes : after ≡ laid 7 request ++ drop value_bytes before
   pub short : first_long 0 request ≡ columns
 
-abbrev pub LaysGap : List Statement → List Statement → List ℕ → List ℕ → List ℕ → Shape → Type 0
+abbrev pub LaysGap : List Statement → List Statement → List ℕ → List ℕ → List ℕ → Told → Type 0
 LaysGap first second prints before after r = (request : List Value) → RequestWith first second prints request → LaidGap before after r request

@@ -8,7 +8,7 @@ use lib.ListN.{length}
 use Rattle.judging.specs.Judging.{rows_of}
 use Rattle.comparing.specs.Compared.{first_wide, IsCount}
 use Rattle.comparing.specs.Machinery.Kinds.{count_of, prints_in}
-use Rattle.comparing.specs.declared.answers.Counting.TheVariants as C
+use Rattle.comparing.specs.Answers.{Counting as C}
 use Rattle.comparing.proofs.compare.NotWide.{not_wide}
 use Rattle.comparing.proofs.compare.Answering.{answer-wide, answer-crowded, answer-over, answer-yes, survey-crowded, survey-listed, within-kinds, counts-gaps}
 use Rattle.comparing.proofs.compare.count_read.Goals as goal

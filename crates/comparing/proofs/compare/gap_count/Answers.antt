@@ -5,7 +5,7 @@ use lib.ListN.{length, replicate}
 use lib.Dec.{ltb}
 use borrow.Author.Tests.{lt-ltb, le-ltb}
 use Rattle.comparing.specs.Compared.{IsCount, workspace_words}
-use Rattle.comparing.specs.declared.answers.Counting.TheVariants as C
+use Rattle.comparing.specs.Answers.{Counting as C}
 use Rattle.comparing.proofs.compare.Answering.{answer-short, answer-long, left-short, left-long}
 use Rattle.comparing.proofs.compare.gap_count.Goals as goal
 

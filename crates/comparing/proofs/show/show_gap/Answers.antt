@@ -44,67 +44,71 @@ show_text-resource-requires c = (
   (column_of c.requires.5.0 2, first-at (rows_of c.args.first.now) (rows_of c.args.second.now) c.args.prints c.requires.5.0 c.requires.5.1 2 (omega arith)),
 )
 
-pub show_text-vpc-requires : goal.show_text-vpc-requires
-show_text-vpc-requires c = (
+pub show_key-vpc-requires : goal.show_key-vpc-requires
+show_key-vpc-requires c = (
   c.requires.0,
   c.requires.1 3 (omega arith),
   c.requires.2 3 (omega arith),
+  omega arith,
   omega arith,
   omega (arith, c.requires.3, c.show_text-principal.auto.words, c.show_text-action.auto.words, c.show_text-resource.auto.words),
   omega (arith, c.requires.4, c.clear_values.auto.values, c.show_text-principal.auto.values, c.show_text-action.auto.values, c.show_text-resource.auto.values),
   (column_of c.requires.5.0 3, first-at (rows_of c.args.first.now) (rows_of c.args.second.now) c.args.prints c.requires.5.0 c.requires.5.1 3 (omega arith)),
 )
 
-pub show_text-prefix-requires : goal.show_text-prefix-requires
-show_text-prefix-requires c = (
+pub show_key-prefix-requires : goal.show_key-prefix-requires
+show_key-prefix-requires c = (
   c.requires.0,
   c.requires.1 4 (omega arith),
   c.requires.2 4 (omega arith),
   omega arith,
-  omega (arith, c.requires.3, c.show_text-principal.auto.words, c.show_text-action.auto.words, c.show_text-resource.auto.words, c.show_text-vpc.auto.words),
-  omega (arith, c.requires.4, c.clear_values.auto.values, c.show_text-principal.auto.values, c.show_text-action.auto.values, c.show_text-resource.auto.values, c.show_text-vpc.auto.values),
+  omega arith,
+  omega (arith, c.requires.3, c.show_text-principal.auto.words, c.show_text-action.auto.words, c.show_text-resource.auto.words, c.show_key-vpc.auto.words),
+  omega (arith, c.requires.4, c.clear_values.auto.values, c.show_text-principal.auto.values, c.show_text-action.auto.values, c.show_text-resource.auto.values, c.show_key-vpc.auto.values),
   (column_of c.requires.5.0 4, first-at (rows_of c.args.first.now) (rows_of c.args.second.now) c.args.prints c.requires.5.0 c.requires.5.1 4 (omega arith)),
 )
 
-pub show_text-vpce-requires : goal.show_text-vpce-requires
-show_text-vpce-requires c = (
+pub show_key-vpce-requires : goal.show_key-vpce-requires
+show_key-vpce-requires c = (
   c.requires.0,
   c.requires.1 5 (omega arith),
   c.requires.2 5 (omega arith),
   omega arith,
-  omega (arith, c.requires.3, c.show_text-principal.auto.words, c.show_text-action.auto.words, c.show_text-resource.auto.words, c.show_text-vpc.auto.words, c.show_text-prefix.auto.words),
-  omega (arith, c.requires.4, c.clear_values.auto.values, c.show_text-principal.auto.values, c.show_text-action.auto.values, c.show_text-resource.auto.values, c.show_text-vpc.auto.values, c.show_text-prefix.auto.values),
+  omega arith,
+  omega (arith, c.requires.3, c.show_text-principal.auto.words, c.show_text-action.auto.words, c.show_text-resource.auto.words, c.show_key-vpc.auto.words, c.show_key-prefix.auto.words),
+  omega (arith, c.requires.4, c.clear_values.auto.values, c.show_text-principal.auto.values, c.show_text-action.auto.values, c.show_text-resource.auto.values, c.show_key-vpc.auto.values, c.show_key-prefix.auto.values),
   (column_of c.requires.5.0 5, first-at (rows_of c.args.first.now) (rows_of c.args.second.now) c.args.prints c.requires.5.0 c.requires.5.1 5 (omega arith)),
 )
 
-pub show_text-referer-requires : goal.show_text-referer-requires
-show_text-referer-requires c = (
+pub show_key-referer-requires : goal.show_key-referer-requires
+show_key-referer-requires c = (
   c.requires.0,
   c.requires.1 6 (omega arith),
   c.requires.2 6 (omega arith),
   omega arith,
-  omega (arith, c.requires.3, c.show_text-principal.auto.words, c.show_text-action.auto.words, c.show_text-resource.auto.words, c.show_text-vpc.auto.words, c.show_text-prefix.auto.words, c.show_text-vpce.auto.words),
-  omega (arith, c.requires.4, c.clear_values.auto.values, c.show_text-principal.auto.values, c.show_text-action.auto.values, c.show_text-resource.auto.values, c.show_text-vpc.auto.values, c.show_text-prefix.auto.values, c.show_text-vpce.auto.values),
+  omega arith,
+  omega (arith, c.requires.3, c.show_text-principal.auto.words, c.show_text-action.auto.words, c.show_text-resource.auto.words, c.show_key-vpc.auto.words, c.show_key-prefix.auto.words, c.show_key-vpce.auto.words),
+  omega (arith, c.requires.4, c.clear_values.auto.values, c.show_text-principal.auto.values, c.show_text-action.auto.values, c.show_text-resource.auto.values, c.show_key-vpc.auto.values, c.show_key-prefix.auto.values, c.show_key-vpce.auto.values),
   (column_of c.requires.5.0 6, first-at (rows_of c.args.first.now) (rows_of c.args.second.now) c.args.prints c.requires.5.0 c.requires.5.1 6 (omega arith)),
 )
 
 pub lay_plans-plans-requires : goal.lay_plans-plans-requires
 lay_plans-plans-requires c =
     let a = c.args in
-    let kept = c.show_text-referer.auto.words ∙ c.show_text-vpce.auto.words ∙ c.show_text-prefix.auto.words ∙ c.show_text-vpc.auto.words ∙ c.show_text-resource.auto.words ∙ c.show_text-action.auto.words ∙ c.show_text-principal.auto.words in
+    let kept = c.show_key-referer.auto.words ∙ c.show_key-vpce.auto.words ∙ c.show_key-prefix.auto.words ∙ c.show_key-vpc.auto.words ∙ c.show_text-resource.auto.words ∙ c.show_text-action.auto.words ∙ c.show_text-principal.auto.words in
     (addresses-fit a.first.now a.second.now c.requires.0.one c.requires.0.two c.requires.0.few c.requires.0.more c.requires.6, omega arith, omega (arith, c.requires.3, kept))
 
 pub show_address-address-requires : goal.show_address-address-requires
 show_address-address-requires c =
     let laid = c.lay_plans-plans.ensures in
-    let kept = c.show_text-referer.auto.words ∙ c.show_text-vpce.auto.words ∙ c.show_text-prefix.auto.words ∙ c.show_text-vpc.auto.words ∙ c.show_text-resource.auto.words ∙ c.show_text-action.auto.words ∙ c.show_text-principal.auto.words in
+    let kept = c.show_key-referer.auto.words ∙ c.show_key-vpce.auto.words ∙ c.show_key-prefix.auto.words ∙ c.show_key-vpc.auto.words ∙ c.show_text-resource.auto.words ∙ c.show_text-action.auto.words ∙ c.show_text-principal.auto.words in
     (c.requires.0, laid.has, omega (arith, c.requires.3, laid.same, kept))
 
 pub shape_of-words : goal.shape_of-words
-shape_of-words c = c.lay_plans-plans.ensures.same ∙ c.show_text-referer.auto.words ∙ c.show_text-vpce.auto.words ∙ c.show_text-prefix.auto.words ∙ c.show_text-vpc.auto.words ∙ c.show_text-resource.auto.words ∙ c.show_text-action.auto.words ∙ c.show_text-principal.auto.words
+shape_of-words c = c.lay_plans-plans.ensures.same ∙ c.show_key-referer.auto.words ∙ c.show_key-vpce.auto.words ∙ c.show_key-prefix.auto.words ∙ c.show_key-vpc.auto.words ∙ c.show_text-resource.auto.words ∙ c.show_text-action.auto.words ∙ c.show_text-principal.auto.words
 
 pub shape_of-values : goal.shape_of-values
-shape_of-values c = c.show_text-referer.auto.values ∙ c.show_text-vpce.auto.values ∙ c.show_text-prefix.auto.values ∙ c.show_text-vpc.auto.values ∙ c.show_text-resource.auto.values ∙ c.show_text-action.auto.values ∙ c.show_text-principal.auto.values ∙ c.clear_values.auto.values
+shape_of-values c = c.show_key-referer.auto.values ∙ c.show_key-vpce.auto.values ∙ c.show_key-prefix.auto.values ∙ c.show_key-vpc.auto.values ∙ c.show_text-resource.auto.values ∙ c.show_text-action.auto.values ∙ c.show_text-principal.auto.values ∙ c.clear_values.auto.values
 
 pub returns : goal.returns
 returns c =
@@ -115,8 +119,8 @@ returns c =
     (c.show_text-principal.ensures (column_of request 0) (at 0 (omega arith)))
     (c.show_text-action.ensures (column_of request 1) (at 1 (omega arith)))
     (c.show_text-resource.ensures (column_of request 2) (at 2 (omega arith)))
-    (c.show_text-vpc.ensures (column_of request 3) (at 3 (omega arith)))
-    (c.show_text-prefix.ensures (column_of request 4) (at 4 (omega arith)))
-    (c.show_text-vpce.ensures (column_of request 5) (at 5 (omega arith)))
-    (c.show_text-referer.ensures (column_of request 6) (at 6 (omega arith)))
+    (c.show_key-vpc.ensures (column_of request 3) (at 3 (omega arith)))
+    (c.show_key-prefix.ensures (column_of request 4) (at 4 (omega arith)))
+    (c.show_key-vpce.ensures (column_of request 5) (at 5 (omega arith)))
+    (c.show_key-referer.ensures (column_of request 6) (at 6 (omega arith)))
     (c.show_address-address.ensures (column_of request 7) (at 7 (omega arith)))

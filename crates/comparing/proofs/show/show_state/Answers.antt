@@ -22,8 +22,8 @@ find_state-i-requires c =
     let a = c.args in
     (c.requires.0, c.requires.1, starts-low (rows_of a.first.now) (rows_of a.second.now) a.column (codes-few (rows_of a.first.now) (rows_of a.second.now) a.column c.requires.1.narrow) a.words.now a.states c.requires.1.explored a.from c.requires.2 c.requires.3, c.requires.4, prepared a.first.now a.second.now a.column a.words.now a.plans c.prints_of-prints.result c.requires.7 c.prints_of-prints.ensures)
 
-pub lay_string-length-requires : goal.lay_string-length-requires
-lay_string-length-requires c =
+pub lay_string-requires : goal.lay_string-requires
+lay_string-requires c =
     let a = c.args in
     let found =
     string-found (rows_of a.first.now) (rows_of a.second.now) a.column (codes-few (rows_of a.first.now) (rows_of a.second.now) a.column c.requires.1.narrow) a.words.now a.states c.requires.1.explored a.from c.requires.2 c.requires.3
@@ -45,9 +45,9 @@ returns c =
     string-found (rows_of a.first.now) (rows_of a.second.now) a.column (codes-few (rows_of a.first.now) (rows_of a.second.now) a.column c.requires.1.narrow) a.words.now a.states c.requires.1.explored a.from c.requires.2 c.requires.3
     a.print s w c.find_state-i.result c.find_state-i.ensures in
     record {
-      bytes = c.lay_string-length.ensures.laid ∙ ap (sets a.values.now (a.column * 512)) found.1;
+      bytes = c.lay_string.ensures.laid ∙ ap (sets a.values.now (a.column * 512)) found.1;
       there = refl;
-      size = c.lay_string-length.ensures.size ∙ ap length found.1;
+      size = c.lay_string.ensures.size ∙ ap length found.1;
       short =
           subst (λ (x : List ℕ). length x ≤ 512) found.1
           (string-short (rows_of a.first.now) (rows_of a.second.now) a.column (codes-few (rows_of a.first.now) (rows_of a.second.now) a.column c.requires.1.narrow) a.words.now a.states c.requires.1.explored a.from c.requires.2 c.requires.3

@@ -1,10 +1,10 @@
--- Where nothing is listed, one byte is the first value; where absence shows the footprint, that is; else the string of the lowest state that
--- shows it.
-use mathlib.Core.Path.{refl, sym, ◌∙◌, subst}
+-- Where nothing is listed, one byte is the first value; else the string of the lowest state that shows it.
+use mathlib.Core.Path.{sym, ◌∙◌, subst}
 use Prim.Native.Nat.{ℕ}
-use mathlib.Core.Bool.{true, false}
+use mathlib.Core.Bool.{true}
 use mathlib.Core.List.{◌++◌}
 use native.Mathlib.Omega.{arith}
+use Rattle.std.specs.Prelude.{Some}
 use Rattle.judging.specs.Requests.{Value}
 use Rattle.judging.specs.Judging.{rows_of}
 use Rattle.columns.specs.Values.{values_in}
@@ -12,10 +12,18 @@ use Rattle.columns.specs.Machinery.Plan.{HasPlans}
 use Rattle.columns.proofs.PlansLaid.{texts-fit}
 use Rattle.columns.proofs.Widths.{sum_both}
 use Rattle.comparing.specs.Machinery.ShownValues.{LaidValue}
-use Rattle.comparing.proofs.show.FirstFound.{codes-few, has-string, explored-few, starts-needed, starts-optional, any_found, string-needed, string-behind-absence, absence-found, lays-value}
+use Rattle.comparing.proofs.show.FirstFound.{codes-few, has-string, explored-few, starts-needed, any_found, string-needed, lays-value}
 use Rattle.comparing.proofs.survey.NoValues.{no-values}
 use Rattle.comparing.proofs.survey.StatesKept.{states-kept}
 use Rattle.comparing.proofs.show.show_text.Goals as goal
+
+pub returns-then-found-eq0 : goal.returns-then-found-eq0
+returns-then-found-eq0 c =
+    let a = c.args in
+    λ v w.
+    let none = no-values (values_in a.column (rows_of a.first.now ++ rows_of a.second.now)) (sym c.states_of-found.ensures.all ∙ c.if-found-eq0.true) in
+    subst (λ (x : Value). LaidValue a.column a.values.now c.show_any.new.values (Some c.show_any.result) x)
+    (sym (any_found (rows_of a.first.now) (rows_of a.second.now) a.column a.print c.requires.3 none v w)) c.show_any.ensures
 
 pub lay_plans-plans-requires : goal.lay_plans-plans-requires
 lay_plans-plans-requires c =
@@ -25,14 +33,6 @@ lay_plans-plans-requires c =
       omega (arith, c.requires.1, found.mine, sum_both a.column (rows_of a.first.now) (rows_of a.second.now)),
       omega (arith, c.requires.4, found.same),
     )
-
-pub returns-then-found-eq0 : goal.returns-then-found-eq0
-returns-then-found-eq0 c =
-    let a = c.args in
-    λ v w.
-    let none = no-values (values_in a.column (rows_of a.first.now ++ rows_of a.second.now)) (sym c.states_of-found.ensures.all ∙ c.if-found-eq0.true) in
-    subst (λ (x : Value). LaidValue a.column a.values.now c.show_any.new.values c.show_any.result x)
-    (sym (any_found (rows_of a.first.now) (rows_of a.second.now) a.column a.print c.if-column-lt3.true none v w)) c.show_any.ensures
 
 pub show_state-requires : goal.show_state-requires
 show_state-requires c =
@@ -44,49 +44,15 @@ show_state-requires c =
             explored = explored-few (rows_of a.first.now) (rows_of a.second.now) a.column (codes-few (rows_of a.first.now) (rows_of a.second.now) a.column c.requires.1) c.requires.2 c.states_of-found.new.words c.states_of-found.result.states found.answer;
             narrow = c.requires.1;
           }),
-      starts-needed (rows_of a.first.now ++ rows_of a.second.now) a.column c.if-column-lt3.true (omega (arith, found.all, c.if-found-eq0.false)),
-      c.requires.3,
+      starts-needed (rows_of a.first.now ++ rows_of a.second.now) a.column c.requires.3 (omega (arith, found.all, c.if-found-eq0.false)),
+      omega (arith, c.requires.3),
       omega (arith, c.requires.4, found.same, c.lay_plans-plans.ensures.same),
       c.requires.5,
-      has-string (rows_of a.first.now) (rows_of a.second.now) a.column a.print (string-needed (rows_of a.first.now) (rows_of a.second.now) a.column a.print c.if-column-lt3.true) c.requires.6,
-      subst (λ (n : ℕ). HasPlans a.first.now a.second.now a.column true n c.lay_plans-plans.new.words c.lay_plans-plans.result) found.mine c.lay_plans-plans.ensures.has,
-    )
-
-pub returns-then-column-lt3 : goal.returns-then-column-lt3
-returns-then-column-lt3 c =
-    let a = c.args in
-    lays-value (rows_of a.first.now) (rows_of a.second.now) a.column a.print a.values.now c.show_state.new.values c.show_state.result (string-needed (rows_of a.first.now) (rows_of a.second.now) a.column a.print c.if-column-lt3.true) c.show_state.ensures
-
-pub absent_print-requires : goal.absent_print-requires
-absent_print-requires c = (c.requires.0.few, c.requires.0.more, c.requires.0.rows)
-
-pub returns-then-absent_print-print : goal.returns-then-absent_print-print
-returns-then-absent_print-print c =
-    let a = c.args in
-    λ v w.
-    subst (λ (x : Value). LaidValue a.column a.values.now a.values.now (record { present = false; length = 0 }) x)
-    (sym (absence-found (rows_of a.first.now) (rows_of a.second.now) a.column a.print c.if-column-lt3.false (sym c.absent_print.ensures ∙ c.if-absent_print-print.true) v w))
-    (record { bytes = refl; there = refl; size = refl; short = omega arith })
-
-pub show_state-requires-2 : goal.show_state-requires-2
-show_state-requires-2 c =
-    let a = c.args in
-    let found = c.states_of-found.ensures in (
-      c.requires.0,
-      states-kept (rows_of a.first.now) (rows_of a.second.now) a.column c.states_of-found.new.words c.lay_plans-plans.new.words c.states_of-found.result.states c.lay_plans-plans.ensures.front
-          (record {
-            explored = explored-few (rows_of a.first.now) (rows_of a.second.now) a.column (codes-few (rows_of a.first.now) (rows_of a.second.now) a.column c.requires.1) c.requires.2 c.states_of-found.new.words c.states_of-found.result.states found.answer;
-            narrow = c.requires.1;
-          }),
-      starts-optional (rows_of a.first.now ++ rows_of a.second.now) a.column c.if-column-lt3.false,
-      c.requires.3,
-      omega (arith, c.requires.4, found.same, c.lay_plans-plans.ensures.same),
-      c.requires.5,
-      has-string (rows_of a.first.now) (rows_of a.second.now) a.column a.print (string-behind-absence (rows_of a.first.now) (rows_of a.second.now) a.column a.print c.if-column-lt3.false c.requires.3 (λ shown. c.if-absent_print-print.false (c.absent_print.ensures ∙ shown))) c.requires.6,
+      has-string (rows_of a.first.now) (rows_of a.second.now) a.column a.print (string-needed (rows_of a.first.now) (rows_of a.second.now) a.column a.print c.requires.3) c.requires.6,
       subst (λ (n : ℕ). HasPlans a.first.now a.second.now a.column true n c.lay_plans-plans.new.words c.lay_plans-plans.result) found.mine c.lay_plans-plans.ensures.has,
     )
 
 pub returns : goal.returns
 returns c =
     let a = c.args in
-    lays-value (rows_of a.first.now) (rows_of a.second.now) a.column a.print a.values.now c.show_state-2.new.values c.show_state-2.result (string-behind-absence (rows_of a.first.now) (rows_of a.second.now) a.column a.print c.if-column-lt3.false c.requires.3 (λ shown. c.if-absent_print-print.false (c.absent_print.ensures ∙ shown))) c.show_state-2.ensures
+    lays-value (rows_of a.first.now) (rows_of a.second.now) a.column a.print a.values.now c.show_state.new.values (Some c.show_state.result) (string-needed (rows_of a.first.now) (rows_of a.second.now) a.column a.print c.requires.3) c.show_state.ensures
