@@ -7,6 +7,7 @@ pub mod Writing
 pub mod Choosing
 pub mod Decoding
 pub mod Walking
+pub mod EntriesLeft
 pub mod Steps
 pub mod Turns
 pub mod Accepting

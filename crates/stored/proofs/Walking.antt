@@ -18,6 +18,7 @@ use Rattle.stored.specs.declared.items.Item.TheVariants as I
 use Rattle.stored.specs.declared.records.Kind.{Kind}
 use Rattle.stored.specs.declared.records.Kind.TheVariants as K
 use Rattle.stored.specs.Machine.{kind_of_item}
+use Rattle.stored.specs.Machinery.Placing.{HasKind}
 use Rattle.stored.proofs.Choosing.{never}
 use Rattle.stored.proofs.Decoding.{kind-is, same_kind, value-size}
 
@@ -86,6 +87,16 @@ pub value-short : (t : List ℕ) (at s n : ℕ) → record_at t at ≡ R.Is I.Va
 value-short t at s n e =
     value-size (get_or t at 0) (kind_of (get_or t at 0)) (kind-is (get_or t at 0)) n
     (sym (kind-agrees t at I.Value s n e) ∙ ap K.Value (body-length t at I.Value s n e))
+
+-- what a record's item asks of the size of its body
+pub record-has-kind : (t : List ℕ) (at : ℕ) (i : Item) (s n : ℕ) → record_at t at ≡ R.Is i s n → HasKind i n
+record-has-kind t at (I.Start k) s n e = tt
+record-has-kind t at (I.Statement k) s n e = tt
+record-has-kind t at (I.Column k) s n e = tt
+record-has-kind t at (I.Condition o k) s n e = tt
+record-has-kind t at (I.Network a k) s n e = tt
+record-has-kind t at I.Value s n e = (value-short t at s n e).1
+record-has-kind t at I.End s n e = tt
 
 -- past the end a record is cut
 pub past : (t : List ℕ) (at : ℕ) → length t ≤ at → record_at t at ≡ R.Cut

@@ -10,6 +10,7 @@ pub mod Machine
 pub mod Reading
 pub mod Writing
 pub mod Entries
+pub mod EntriesLeft
 pub mod Tables
 pub mod Form
 pub mod Machinery

@@ -3,6 +3,7 @@
 
 #![tactic(auto)]
 
+pub mod entries;
 pub mod items;
 pub mod limits;
 pub mod machine;

@@ -1,0 +1,55 @@
+-- A record that is found is the first entry of those left, and the others are those of the bytes behind it.
+use Rattle.std.proofs.Common.{arith, rules, sym, ap, length, ◌+◌}
+use Rattle.std.proofs.lemmas.List.{take_rest}
+use native.Mathlib.Nat.{add-sub_cancel_left}
+use Rattle.stored.specs.EntriesLeft.{entries_left}
+use Rattle.stored.proofs.EntriesLeft.{entry-first, none-first}
+use Rattle.stored.proofs.Walking.{inside, body-length, record-has-kind}
+use Rattle.stored.proofs.entries.EntriesIterator.next.Goals as goal
+
+pub returns-in_default-clause-steps : goal.returns-in_default-clause-steps
+unfolding entries_left
+returns-in_default-clause-steps c =
+    let none = none-first c.args.self.now.rest.now c.in_default.field-0 (sym c.in_default.ensures) in
+    (none, none)
+
+pub overflow_add-end : goal.overflow_add-end
+overflow_add-end c =
+    let within = inside _ _ _ _ _ (sym c.in-Ok.ensures) in
+    omega arith
+
+pub slice_bounds-bytes-end : goal.slice_bounds-bytes-end
+slice_bounds-bytes-end c = (inside _ _ _ _ _ (sym c.in-Ok.ensures)).1
+
+pub slice_bounds-self-count : goal.slice_bounds-self-count
+slice_bounds-self-count c = (inside _ _ _ _ _ (sym c.in-Ok.ensures)).1
+
+pub slice_bounds-self-start : goal.slice_bounds-self-start
+slice_bounds-self-start c =
+    let within = inside _ _ _ _ _ (sym c.in-Ok.ensures) in
+    search rules
+
+pub invariant_of-result : goal.invariant_of-result
+invariant_of-result c =
+    let t = c.args.self.now.rest.now in
+    let r = c.in-Ok.record in
+    record {
+      has_kind =
+          rw (add-sub_cancel_left, body-length t 0 r.item r.start r.size (sym c.in-Ok.ensures))
+          (record-has-kind t 0 r.item r.start r.size (sym c.in-Ok.ensures));
+    }
+
+pub returns-clause-steps : goal.returns-clause-steps
+unfolding entries_left
+returns-clause-steps c =
+    let t = c.args.self.now.rest.now in
+    let r = c.in-Ok.record in
+    rw (add-sub_cancel_left, take_rest t (r.start + r.size)) (entry-first t r.item r.start r.size (sym c.in-Ok.ensures))
+
+pub returns-clause-goes : goal.returns-clause-goes
+unfolding entries_left
+returns-clause-goes c =
+    let t = c.args.self.now.rest.now in
+    let r = c.in-Ok.record in
+    let shorter = ap length (entry-first t r.item r.start r.size (sym c.in-Ok.ensures)) in
+    rw (take_rest t (r.start + r.size)) (search rules)
