@@ -12,7 +12,7 @@ use Rattle.json_text.proofs.Tokenizing.{text-tokens}
 use Rattle.members.specs.Machinery.Verdicts.{document}
 use Rattle.members.specs.Faults.{MemberFault, faults, Behind, Decides}
 use Rattle.members.specs.Machinery.Levels.{at, judge, placed, members_of}
-use Rattle.members.specs.declared.state.Level.TheVariants as L
+use Rattle.members.specs.Machinery.States.{Level as L}
 use Rattle.members.proofs.Judging.{judged}
 use Rattle.members.proofs.FirstFault.{first, first-fault}
 use Rattle.members.proofs.Places.{in_order}

@@ -15,10 +15,10 @@ use Rattle.members.specs.Members.{Verdict, version_text, top_kind, row_kind, aws
 use Rattle.members.specs.Machinery.Verdicts.{following, add, is_bad, each_text, strings, keys, operator, operators, aws_whole, aws, row_value, row_whole, row, each_row, top_value, top_whole, top, document}
 use Rattle.members.specs.Members.Verdict.{fine, refused}
 use Rattle.members.specs.Machinery.Levels.{at, go, in_strings, behind_row, turn_in, after_turn, judge}
-use Rattle.members.specs.declared.state.Level.{Level}
-use Rattle.members.specs.declared.state.Level.TheVariants as L
-use Rattle.members.specs.declared.state.State.{State}
-use Rattle.members.specs.declared.state.Turn.TheVariants as T
+use Rattle.members.specs.Machinery.States.{Level}
+use Rattle.members.specs.Machinery.States.{Level as L}
+use Rattle.members.specs.Machinery.States.{State}
+use Rattle.members.specs.Machinery.States.{Turn as T}
 
 regroup : (c m v : Verdict) → following (following c m) v ≡ following c (following m v)
 regroup fine m v = refl
@@ -45,52 +45,52 @@ each-text M back same (element (list n xs) es) ts a b c d e f = rw same
 each-text M back same (element (object n ms) es) ts a b c d e f = rw same
 
 -- keys of an operator
-key-value : (v : Tree one) (ts : List Token) (k a b d e : ℕ) (f : Bool)
-    → judge (flat v ts) (at L.Keys k a b 0 d e f) ≡ following (strings v) (judge ts (at L.Keys 0 a b 0 d e f))
-key-value (text n bs) ts k a b d e f = refl
-key-value (other n) ts k a b d e f = refl
-key-value (list n es) ts k a b d e f = each-text L.KeyStrings L.Keys (λ s e x. refl) es ts a b 0 d e f
-key-value (object n ms) ts k a b d e f = refl
+key-value : (v : Tree one) (ts : List Token) (a b d e : ℕ) (f : Bool)
+    → judge (flat v ts) (at L.Keys 0 a b 0 d e f) ≡ following (strings v) (judge ts (at L.Keys 0 a b 0 d e f))
+key-value (text n bs) ts a b d e f = refl
+key-value (other n) ts a b d e f = refl
+key-value (list n es) ts a b d e f = each-text L.KeyStrings L.Keys (λ s e x. refl) es ts a b 0 d e f
+key-value (object n ms) ts a b d e f = refl
 
 key-members : (ms : Tree named) (ts : List Token) (a b d e : ℕ) (f : Bool)
     → judge (flat ms ts) (at L.Keys 0 a b 0 d e f) ≡ following (keys e ms) (judge ts (at L.Operators 0 a b 0 d 0 f))
 key-members (end_object n) ts a b d e f = refl
 key-members (member n x v ms) ts a b d e f =
-    name-step (is_bad (key_kind x) (key_kind x) e) n (flat v (flat ms ts)) (at L.Keys (key_kind x) a b 0 d (add e (key_kind x)) f)
+    name-step (is_bad (key_kind x) (key_kind x) e) n (flat v (flat ms ts)) (at L.Keys 0 a b 0 d (add e (key_kind x)) f)
     (strings v) (keys (add e (key_kind x)) ms) (judge ts (at L.Operators 0 a b 0 d 0 f))
-    (key-value v (flat ms ts) (key_kind x) a b d (add e (key_kind x)) f ∙ ap (following (strings v)) (key-members ms ts a b d (add e (key_kind x)) f))
+    (key-value v (flat ms ts) a b d (add e (key_kind x)) f ∙ ap (following (strings v)) (key-members ms ts a b d (add e (key_kind x)) f))
 
 -- operators of a condition
-operator-value : (v : Tree one) (ts : List Token) (k a b d : ℕ) (f : Bool)
-    → judge (flat v ts) (at L.Operators k a b 0 d 0 f) ≡ following (operator v) (judge ts (at L.Operators 0 a b 0 d 0 f))
-operator-value (text n bs) ts k a b d f = refl
-operator-value (other n) ts k a b d f = refl
-operator-value (list n es) ts k a b d f = refl
-operator-value (object n ms) ts k a b d f = key-members ms ts a b d 0 f
+operator-value : (v : Tree one) (ts : List Token) (a b d : ℕ) (f : Bool)
+    → judge (flat v ts) (at L.Operators 0 a b 0 d 0 f) ≡ following (operator v) (judge ts (at L.Operators 0 a b 0 d 0 f))
+operator-value (text n bs) ts a b d f = refl
+operator-value (other n) ts a b d f = refl
+operator-value (list n es) ts a b d f = refl
+operator-value (object n ms) ts a b d f = key-members ms ts a b d 0 f
 
 operator-members : (ms : Tree named) (ts : List Token) (a b d : ℕ) (f : Bool)
     → judge (flat ms ts) (at L.Operators 0 a b 0 d 0 f) ≡ following (operators d ms) (judge ts (at L.Row 0 a b 0 0 0 f))
 operator-members (end_object n) ts a b d f = refl
 operator-members (member n x v ms) ts a b d f =
-    name-step (is_bad (operator_kind x) (operator_kind x) d) n (flat v (flat ms ts)) (at L.Operators (operator_kind x) a b 0 (add d (operator_kind x)) 0 f)
+    name-step (is_bad (operator_kind x) (operator_kind x) d) n (flat v (flat ms ts)) (at L.Operators 0 a b 0 (add d (operator_kind x)) 0 f)
     (operator v) (operators (add d (operator_kind x)) ms) (judge ts (at L.Row 0 a b 0 0 0 f))
-    (operator-value v (flat ms ts) (operator_kind x) a b (add d (operator_kind x)) f ∙ ap (following (operator v)) (operator-members ms ts a b (add d (operator_kind x)) f))
+    (operator-value v (flat ms ts) a b (add d (operator_kind x)) f ∙ ap (following (operator v)) (operator-members ms ts a b (add d (operator_kind x)) f))
 
 -- the one member of a principal
-aws-value : (v : Tree one) (ts : List Token) (k a b c : ℕ) (f : Bool)
-    → judge (flat v ts) (at L.Principals k a b c 0 0 f) ≡ following (strings v) (judge ts (at L.Principals 0 a b c 0 0 f))
-aws-value (text n bs) ts k a b c f = refl
-aws-value (other n) ts k a b c f = refl
-aws-value (list n es) ts k a b c f = each-text L.PrincipalStrings L.Principals (λ s e x. refl) es ts a b c 0 0 f
-aws-value (object n ms) ts k a b c f = refl
+aws-value : (v : Tree one) (ts : List Token) (a b c : ℕ) (f : Bool)
+    → judge (flat v ts) (at L.Principals 0 a b c 0 0 f) ≡ following (strings v) (judge ts (at L.Principals 0 a b c 0 0 f))
+aws-value (text n bs) ts a b c f = refl
+aws-value (other n) ts a b c f = refl
+aws-value (list n es) ts a b c f = each-text L.PrincipalStrings L.Principals (λ s e x. refl) es ts a b c 0 0 f
+aws-value (object n ms) ts a b c f = refl
 
 aws-members : (ms : Tree named) (ts : List Token) (a b c : ℕ) (f : Bool)
     → judge (flat ms ts) (at L.Principals 0 a b c 0 0 f) ≡ following (aws c ms) (judge ts (at L.Row 0 a b 0 0 0 f))
 aws-members (end_object n) ts a b c f = close-step (aws_whole c) n ts (at L.Row 0 a b 0 0 0 f)
 aws-members (member n x v ms) ts a b c f =
-    name-step (is_bad (aws_kind x) (aws_kind x) c) n (flat v (flat ms ts)) (at L.Principals (aws_kind x) a b (add c (aws_kind x)) 0 0 f)
+    name-step (is_bad (aws_kind x) (aws_kind x) c) n (flat v (flat ms ts)) (at L.Principals 0 a b (add c (aws_kind x)) 0 0 f)
     (strings v) (aws (add c (aws_kind x)) ms) (judge ts (at L.Row 0 a b 0 0 0 f))
-    (aws-value v (flat ms ts) (aws_kind x) a b (add c (aws_kind x)) f ∙ ap (following (strings v)) (aws-members ms ts a b (add c (aws_kind x)) f))
+    (aws-value v (flat ms ts) a b (add c (aws_kind x)) f ∙ ap (following (strings v)) (aws-members ms ts a b (add c (aws_kind x)) f))
 
 -- members of a statement
 row-value : (v : Tree one) (ts : List Token) (k a b : ℕ) (f : Bool)

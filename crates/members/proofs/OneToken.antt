@@ -1,4 +1,5 @@
 -- The pass over the tokens: one token, and what it leads to.
+use Rattle.std.proofs.Common.{Some}
 use Prim.Native.Nat.{ℕ, ◌+◌, ◌-◌, ◌<◌}
 use mathlib.Core.Path.{◌≡◌, refl, sym, ◌∙◌, ap}
 use mathlib.Core.List.{List, []}
@@ -10,35 +11,34 @@ use Rattle.json_text.specs.Machinery.Marks.{tokens_at, met_tokens}
 use Rattle.json_text.specs.declared.events.Event.{Event}
 use Rattle.json_text.specs.declared.events.Event.TheVariants as E
 use Rattle.json_text.specs.declared.tokens.Mark.{Mark}
-use Rattle.json_text.specs.declared.tokens.Met.TheVariants as M
+use Rattle.json_text.specs.declared.tokens.Token.{Token as Met}
 use Rattle.members.specs.Members.Verdict.{fine}
 use Rattle.members.specs.Machinery.Levels.{outside, in_rows, in_strings, turn_in, after_turn, judge, placed}
-use Rattle.members.specs.declared.checking.Checked.TheVariants as C
-use Rattle.members.specs.declared.state.Level.{Level}
-use Rattle.members.specs.declared.state.Level.TheVariants as L
-use Rattle.members.specs.declared.state.State.{State}
-use Rattle.members.specs.declared.state.Turn.{Turn}
-use Rattle.members.specs.declared.state.Turn.TheVariants as T
+use Rattle.members.specs.Answers.{Checked as C}
+use Rattle.members.specs.Machinery.States.{Level}
+use Rattle.members.specs.Machinery.States.{Level as L}
+use Rattle.members.specs.Machinery.States.{State}
+use Rattle.members.specs.Machinery.States.{Turn}
+use Rattle.members.specs.Machinery.States.{Turn as T}
 
 -- only names and strings have bytes
 deaf : (l : Level) (s : State) (x : List ℕ)
-    → (turn_in l s E.Nothing x ≡ T.Next s) × (turn_in l s E.Other x ≡ turn_in l s E.Other []) × (turn_in l s E.OpenList x ≡ turn_in l s E.OpenList [])
+    → (turn_in l s E.Other x ≡ turn_in l s E.Other []) × (turn_in l s E.OpenList x ≡ turn_in l s E.OpenList [])
     × (turn_in l s E.CloseList x ≡ turn_in l s E.CloseList []) × (turn_in l s E.OpenObject x ≡ turn_in l s E.OpenObject [])
     × (turn_in l s E.CloseObject x ≡ turn_in l s E.CloseObject [])
-deaf L.Outside s x = (refl, refl, refl, refl, refl, refl)
-deaf L.Top s x = (refl, refl, refl, refl, refl, refl)
-deaf L.Rows s x = (refl, refl, refl, refl, refl, refl)
-deaf L.Row s x = (refl, refl, refl, refl, refl, refl)
-deaf L.RowStrings s x = (refl, refl, refl, refl, refl, refl)
-deaf L.Principals s x = (refl, refl, refl, refl, refl, refl)
-deaf L.PrincipalStrings s x = (refl, refl, refl, refl, refl, refl)
-deaf L.Operators s x = (refl, refl, refl, refl, refl, refl)
-deaf L.Keys s x = (refl, refl, refl, refl, refl, refl)
-deaf L.KeyStrings s x = (refl, refl, refl, refl, refl, refl)
+deaf L.Outside s x = (refl, refl, refl, refl, refl)
+deaf L.Top s x = (refl, refl, refl, refl, refl)
+deaf L.Rows s x = (refl, refl, refl, refl, refl)
+deaf L.Row s x = (refl, refl, refl, refl, refl)
+deaf L.RowStrings s x = (refl, refl, refl, refl, refl)
+deaf L.Principals s x = (refl, refl, refl, refl, refl)
+deaf L.PrincipalStrings s x = (refl, refl, refl, refl, refl)
+deaf L.Operators s x = (refl, refl, refl, refl, refl)
+deaf L.Keys s x = (refl, refl, refl, refl, refl)
+deaf L.KeyStrings s x = (refl, refl, refl, refl, refl)
 
 -- outside, between statements and in a list of strings the bytes do not matter
 pub outside-deaf : (s : State) (e : Event) (x y : List ℕ) → outside s e x ≡ outside s e y
-outside-deaf s E.Nothing x y = refl
 outside-deaf s E.Name x y = refl
 outside-deaf s E.Text x y = refl
 outside-deaf s E.Other x y = refl
@@ -48,7 +48,6 @@ outside-deaf s E.OpenObject x y = refl
 outside-deaf s E.CloseObject x y = refl
 
 pub rows-deaf : (s : State) (e : Event) (x y : List ℕ) → in_rows s e x ≡ in_rows s e y
-rows-deaf s E.Nothing x y = refl
 rows-deaf s E.Name x y = refl
 rows-deaf s E.Text x y = refl
 rows-deaf s E.Other x y = refl
@@ -58,7 +57,6 @@ rows-deaf s E.OpenObject x y = refl
 rows-deaf s E.CloseObject x y = refl
 
 pub strings-deaf : (back : Level) (s : State) (e : Event) (x y : List ℕ) → in_strings back s e x ≡ in_strings back s e y
-strings-deaf back s E.Nothing x y = refl
 strings-deaf back s E.Name x y = refl
 strings-deaf back s E.Text x y = refl
 strings-deaf back s E.Other x y = refl
@@ -69,30 +67,28 @@ strings-deaf back s E.CloseObject x y = refl
 
 meets : (e : Event) (n : ℕ) (s : List ℕ) (ts : List Token) (st : State)
     → judge (mark e n s ts) st ≡ after_turn (judge ts) n (turn_in st.level st e (content_of s))
-meets E.Nothing n s ts st = sym (ap (after_turn (judge ts) n) (deaf st.level st (content_of s)).0)
 meets E.Name n s ts st = refl
 meets E.Text n s ts st = refl
-meets E.Other n s ts st = sym (ap (after_turn (judge ts) n) (deaf st.level st (content_of s)).1)
-meets E.OpenList n s ts st = sym (ap (after_turn (judge ts) n) (deaf st.level st (content_of s)).2)
-meets E.CloseList n s ts st = sym (ap (after_turn (judge ts) n) (deaf st.level st (content_of s)).3)
-meets E.OpenObject n s ts st = sym (ap (after_turn (judge ts) n) (deaf st.level st (content_of s)).4)
-meets E.CloseObject n s ts st = sym (ap (after_turn (judge ts) n) (deaf st.level st (content_of s)).5)
+meets E.Other n s ts st = sym (ap (after_turn (judge ts) n) (deaf st.level st (content_of s)).0)
+meets E.OpenList n s ts st = sym (ap (after_turn (judge ts) n) (deaf st.level st (content_of s)).1)
+meets E.CloseList n s ts st = sym (ap (after_turn (judge ts) n) (deaf st.level st (content_of s)).2)
+meets E.OpenObject n s ts st = sym (ap (after_turn (judge ts) n) (deaf st.level st (content_of s)).3)
+meets E.CloseObject n s ts st = sym (ap (after_turn (judge ts) n) (deaf st.level st (content_of s)).4)
 
 -- a token met at a place, and the mark behind it
-module _ (t : List ℕ) (here : Mark) (st : State) (e : Event) (at : ℕ) (behind : Mark)
-    (token : tokens_at t here ≡ met_tokens t (M.Token e at behind)) where
+module _ (t : List ℕ) (here : Mark) (st : State) (x : Met) (token : tokens_at t here ≡ met_tokens t (Some x)) where
   token-turn : judge (tokens_at t here) st
-      ≡ after_turn (judge (tokens_at t behind)) (length t - at) (turn_in st.level st e (content_of (drop (at + 1) t)))
-  token-turn = ap (λ (ts : List Token). judge ts st) token ∙ meets e (length t - at) (drop (at + 1) t) (tokens_at t behind) st
+      ≡ after_turn (judge (tokens_at t x.behind)) (length t - x.at) (turn_in st.level st x.event (content_of (drop (x.at + 1) t)))
+  token-turn = ap (λ (ts : List Token). judge ts st) token ∙ meets x.event (length t - x.at) (drop (x.at + 1) t) (tokens_at t x.behind) st
 
-  pub goes_on_lem : (turn : Turn) (next : State) → turn ≡ turn_in st.level st e (content_of (drop (at + 1) t)) → turn ≡ T.Next next
-      → judge (tokens_at t here) st ≡ judge (tokens_at t behind) next
+  pub goes_on_lem : (turn : Turn) (next : State) → turn ≡ turn_in st.level st x.event (content_of (drop (x.at + 1) t)) → turn ≡ T.Next next
+      → judge (tokens_at t here) st ≡ judge (tokens_at t x.behind) next
   goes_on_lem turn next f g = token-turn ∙ rw (sym f, g)
 
-  pub stops : (turn : Turn) (k : ℕ) → turn ≡ turn_in st.level st e (content_of (drop (at + 1) t)) → turn ≡ T.Refused k → at < length t
-      → placed (length t) (judge (tokens_at t here) st) ≡ C.Refused k at
+  pub stops : (turn : Turn) (k : ℕ) → turn ≡ turn_in st.level st x.event (content_of (drop (x.at + 1) t)) → turn ≡ T.Refused k → x.at < length t
+      → placed (length t) (judge (tokens_at t here) st) ≡ C.Refused k x.at
   stops turn k f g h =
-      let place : length t - (length t - at) ≡ at = omega arith in
+      let place : length t - (length t - x.at) ≡ x.at = omega arith in
       rw (token-turn, sym f, g, place)
 
 -- no token is left

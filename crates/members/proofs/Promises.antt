@@ -5,8 +5,8 @@ use mathlib.Core.Path.{◌≡◌, refl, sym, ◌∙◌, ap}
 use mathlib.Core.List.{List}
 use native.Mathlib.Omega.{arith}
 use Rattle.members.specs.Faults.{MemberFault, Decides}
-use Rattle.members.specs.declared.checking.Checked.{Checked}
-use Rattle.members.specs.declared.checking.Checked.TheVariants as C
+use Rattle.members.specs.Answers.{Checked}
+use Rattle.members.specs.Answers.{Checked as C}
 
 -- The faults decide one answer.
 pub one-decision : (size : ℕ) (fs : List MemberFault) (a b : Checked) → Decides size fs a → Decides size fs b → a ≡ b

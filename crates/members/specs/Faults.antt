@@ -6,8 +6,8 @@ use Rattle.json_text.specs.Trees.{Tree}
 use Rattle.json_text.specs.Trees.Shape.{one, several, named}
 use Rattle.json_text.specs.Trees.Tree.{text, other, list, object, end_list, element, end_object, member}
 use Rattle.members.specs.Members.{top_kind, row_kind, aws_kind, operator_kind, key_kind, row_slot, itself, version_text}
-use Rattle.members.specs.declared.checking.Checked.{Checked}
-use Rattle.members.specs.declared.checking.Checked.TheVariants as C
+use Rattle.members.specs.Answers.{Checked}
+use Rattle.members.specs.Answers.{Checked as C}
 
 -- its number, and its place as the bytes left there
 pub record MemberFault : Type 0 where

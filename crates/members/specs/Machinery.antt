@@ -1,3 +1,4 @@
 -- What functions inside promise each other, and what the proofs are made of. None of it has to be believed.
 pub mod Verdicts
+pub mod States
 pub mod Levels

@@ -1,55 +1,28 @@
 // The members of a document: the first 21 or 22, by one pass over its tokens.
 ghost use Rattle.std.specs.Prelude.{◌≡◌};
-ghost use Rattle.members.specs.Machinery.Levels.{start_members, members_of};
+ghost use Rattle.members.specs.Answers.{as_checked};
+ghost use Rattle.members.specs.Machinery.Levels.{members_of};
 
 use crate::levels::after_token;
-use crate::state::{Level, State, Turn};
-use json_text::tokens::{Met, first_mark, next_token};
+use crate::state::State;
+use json_text::tokens::{first_mark, next_token};
+use refusals::Refusal;
 
-#[derive(Clone, Copy)]
-pub enum Checked {
-    Sound,
-    // 21 or 22, and its place.
-    Refused(u8, usize),
-}
-
-fn begin() -> State
-    ensures { result ≡ start_members }
-{
-    State {
-        level: Level::Outside,
-        due: 0,
-        top: 0,
-        row: 0,
-        principals: 0,
-        operators: 0,
-        keys: 0,
-        listed: false,
-    }
-}
-
-// The first 21 or 22 of a text that has no 20.
-pub fn members_fault(text: &[u8]) -> Checked
-    ensures { result ≡ members_of text.now }
+/// The first 21 or 22 of a text that has no 20.
+pub fn members_fault(text: &[u8]) -> Result<(), Refusal>
+    ensures { as_checked result ≡ members_of text.now }
 {
     let mut here = first_mark();
-    let mut state = begin();
-    loop {
-        match next_token(text, here) {
-            Met::None => {
-                return Checked::Sound;
-            }
-            Met::Token(event, at, behind) => {
-                match after_token(state, event, text, at + 1) {
-                    Turn::Next(next) => {
-                        state = next;
-                        here = behind;
-                    }
-                    Turn::Refused(number) => {
-                        return Checked::Refused(number, at);
-                    }
-                }
+    let mut state = State::begin();
+    while let Some(token) = next_token(text, here) {
+        match after_token(state, token.event, text, token.at + 1) {
+            Ok(next) => state = next,
+            Err(reason) => {
+                let place = token.at;
+                return Err(Refusal { reason, place });
             }
         }
+        here = token.behind;
     }
+    Ok(())
 }

@@ -1,43 +1,47 @@
 // The members met in an object, a bit each.
-ghost use Rattle.std.specs.Prelude.{◌≡◌, ◌<◌};
-ghost use Rattle.members.specs.Members.{row_slot};
-ghost use Rattle.members.specs.Machinery.Verdicts.{is_seen, add, is_bad};
+ghost use Rattle.std.specs.Prelude.{◌≡◌, suc, drop};
+ghost use Rattle.json_text.specs.Machinery.Pieces.{content_of};
+ghost use Rattle.members.specs.Machinery.Verdicts.{is_seen, add};
+ghost use Rattle.members.specs.Machinery.States.{Meets};
 
-// A member was met.
-pub(crate) fn is_seen(seen: u16, slot: u8) -> bool
-    requires { slot < 16 }
-    ensures { result ≡ is_seen seen slot }
-{
-    (seen >> slot) % 2 == 1
+use crate::names::Name;
+use refusals::Reason;
+
+#[derive(Clone, Copy, Debug, PartialEq, Eq)]
+pub struct Marks {
+    pub bits: u16,
 }
 
-// One member more was met.
-pub(crate) fn with_mark(seen: u16, slot: u8) -> u16
-    requires { slot < 16 }
-    ensures { result ≡ add seen slot }
-{
-    seen | (1u16 << slot)
-}
+impl Marks {
+    /// None was met.
+    pub(crate) const NONE: Marks = Marks { bits: 0 };
 
-// Unknown, or met before.
-pub(crate) fn is_bad(kind: u8, slot: u8, seen: u16) -> bool
-    requires { slot < 16 }
-    ensures { result ≡ is_bad kind slot seen }
-{
-    let met = is_seen(seen, slot);
-    (kind == 0) | met
-}
-
-// A form and its Not-form have one mark.
-pub fn row_slot(kind: u8) -> u8
-    ensures value { result ≡ row_slot kind }
-    ensures small { result < 16 }
-{
-    if kind <= 2 {
-        return kind;
+    /// A member was met.
+    #[tactic(auto, unfolding(crate::specs::Machinery::Verdicts::is_seen))]
+    pub(crate) fn is_seen<N: Name>(self, name: N) -> bool
+        ensures { result ≡ is_seen self.bits (N.slot_of (suc (N.index name))) }
+    {
+        (self.bits >> name.slot()) % 2 == 1
     }
-    if kind <= 8 {
-        return (kind + 3) / 2;
+
+    /// One member more was met.
+    pub(crate) fn with<N: Name>(self, name: N) -> Marks
+        ensures { result.bits ≡ add self.bits (N.slot_of (suc (N.index name))) }
+    {
+        Marks {
+            bits: self.bits | (1u16 << name.slot()),
+        }
     }
-    6
+
+    /// The name that the string at a place says, and the marks with it; 21 where it is unknown or was met before.
+    pub(crate) fn meet<N: Name>(self, text: &[u8], from: usize) -> Result<(N, Marks), Reason>
+        ensures { Meets N.index N.slot_of (N.kind_of (content_of (drop from text.now))) self.bits result }
+    {
+        let name = N::named(text, from).ok_or(Reason::WrongName)?;
+        if self.is_seen(name) {
+            Err(Reason::WrongName)
+        } else {
+            Ok((name, self.with(name)))
+        }
+    }
 }

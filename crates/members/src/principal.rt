@@ -2,47 +2,48 @@
 ghost use Rattle.std.specs.Prelude.{◌≡◌, [], drop};
 ghost use Rattle.json_text.specs.Machinery.Pieces.{content_of};
 ghost use Rattle.json_text.specs.declared.events.Event.TheVariants as E;
+ghost use Rattle.members.specs.Machinery.States.{state_of, as_turn};
 ghost use Rattle.members.specs.Machinery.Levels.{in_principals};
 
-use crate::marks::{is_bad, is_seen, with_mark};
-use crate::names::aws_kind;
-use crate::state::{Level, State, Turn, at_principal, at_statement};
+use crate::names::AwsName;
+use crate::state::{Level, State};
 use json_text::events::Event;
+use refusals::Reason;
 
 // A name: unknown or met before, 21.
-fn aws_name(state: State, text: &[u8], from: usize) -> Turn
-    ensures { result ≡ in_principals state E.Name (content_of (drop from text.now)) }
+fn aws_member(state: State, text: &[u8], from: usize) -> Result<State, Reason>
+    ensures { as_turn result ≡ in_principals (state_of state) E.Name (content_of (drop from text.now)) }
 {
-    let kind = aws_kind(text, from);
-    let seen = state.principals;
-    if is_bad(kind, kind, seen) {
-        return Turn::Refused(21);
-    }
-    at_principal(state, Level::Principals, kind, with_mark(seen, kind))
+    let (_, principals) = state.principals.meet::<AwsName>(text, from)?;
+    Ok(state.in_principal(Level::Principals, principals))
 }
 
 // The closing brace: 22 where AWS is missing.
-fn aws_end(state: State) -> Turn
-    ensures { result ≡ in_principals state E.CloseObject [] }
+fn aws_end(state: State) -> Result<State, Reason>
+    ensures { as_turn result ≡ in_principals (state_of state) E.CloseObject [] }
 {
-    if is_seen(state.principals, 1) {
-        return at_statement(state, Level::Row, 0, state.row);
+    if state.principals.is_seen(AwsName::Aws) {
+        Ok(state.in_statement(Level::Row(None), state.row))
+    } else {
+        Err(Reason::WrongForm)
     }
-    Turn::Refused(22)
 }
 
 // A token among the members of a principal.
-pub(crate) fn in_principals(state: State, event: Event, text: &[u8], from: usize) -> Turn
-    ensures { result ≡ in_principals state event (content_of (drop from text.now)) }
+pub(crate) fn in_principals(
+    state: State,
+    event: Event,
+    text: &[u8],
+    from: usize,
+) -> Result<State, Reason>
+    ensures { as_turn result ≡ in_principals (state_of state) event (content_of (drop from text.now)) }
 {
     match event {
-        Event::Nothing => Turn::Next(state),
-        Event::Name => aws_name(state, text, from),
-        Event::Text => at_principal(state, Level::Principals, 0, state.principals),
-        Event::Other => Turn::Refused(22),
-        Event::OpenList => at_principal(state, Level::PrincipalStrings, 0, state.principals),
-        Event::CloseList => Turn::Next(state),
-        Event::OpenObject => Turn::Refused(22),
+        Event::CloseList => Ok(state),
+        Event::Name => aws_member(state, text, from),
+        Event::Text => Ok(state.in_principal(Level::Principals, state.principals)),
+        Event::OpenList => Ok(state.in_principal(Level::PrincipalStrings, state.principals)),
+        Event::Other | Event::OpenObject => Err(Reason::WrongForm),
         Event::CloseObject => aws_end(state),
     }
 }

@@ -9,13 +9,11 @@ use Rattle.json_text.specs.Machinery.Tokens.Token.{name, text, other, open-list,
 use Rattle.members.specs.Members.{Verdict, version_text, top_kind, row_kind, aws_kind, operator_kind, key_kind, row_slot}
 use Rattle.members.specs.Machinery.Verdicts.{add, is_bad, aws_whole, row_whole, top_whole}
 use Rattle.members.specs.Members.Verdict.{fine, refused}
-use Rattle.members.specs.declared.state.Level.{Level}
-use Rattle.members.specs.declared.state.Level.TheVariants as L
-use Rattle.members.specs.declared.state.State.{State}
-use Rattle.members.specs.declared.checking.Checked.{Checked}
-use Rattle.members.specs.declared.checking.Checked.TheVariants as C
-use Rattle.members.specs.declared.state.Turn.{Turn}
-use Rattle.members.specs.declared.state.Turn.TheVariants as T
+use Rattle.members.specs.Answers.{Checked}
+use Rattle.members.specs.Answers.{Checked as C}
+use Rattle.members.specs.Machinery.States.{Level, State, Turn}
+use Rattle.members.specs.Machinery.States.{Level as L}
+use Rattle.members.specs.Machinery.States.{Turn as T}
 
 -- where a token stands
 abbrev pub place_of : Token → ℕ
@@ -27,7 +25,7 @@ place_of (close-list n) = n
 place_of (open-object n) = n
 place_of (close-object n) = n
 
--- a level, the member due, and what was met at each level
+-- a level, the member of a document or statement that is due, and what was met at each level
 abbrev pub at : Level → ℕ → ℕ → ℕ → ℕ → ℕ → ℕ → Bool → State
 at l due top row principals operators keys listed =
     record { level = l; due = due; top = top; row = row; principals = principals; operators = operators; keys = keys; listed = listed }
@@ -55,7 +53,6 @@ abbrev pub go : Level → ℕ → ℕ → ℕ → ℕ → ℕ → ℕ → Bool �
 go l due top row principals operators keys listed = T.Next (at l due top row principals operators keys listed)
 
 abbrev pub outside : State → Event → List ℕ → Turn
-outside s E.Nothing bs = T.Next s
 outside s E.Name bs = T.Next s
 outside s E.Text bs = T.Refused 22
 outside s E.Other bs = T.Refused 22
@@ -65,7 +62,6 @@ outside s E.OpenObject bs = go L.Top 0 0 0 0 0 0 false
 outside s E.CloseObject bs = T.Next s
 
 abbrev pub in_top : State → Event → List ℕ → Turn
-in_top s E.Nothing bs = T.Next s
 in_top s E.Name bs =
     pick (is_bad (top_kind bs) (top_kind bs) s.top) (T.Refused 21) (go L.Top (top_kind bs) (add s.top (top_kind bs)) 0 0 0 0 false)
 in_top s E.Text bs = pick (eqb s.due 1) (pick (same_bytes bs version_text) (go L.Top 0 s.top 0 0 0 0 false) (T.Refused 22)) (T.Refused 22)
@@ -76,7 +72,6 @@ in_top s E.OpenObject bs = pick (eqb s.due 1) (T.Refused 22) (go L.Row 0 s.top 0
 in_top s E.CloseObject bs = pick (top_whole s.top) (go L.Outside 0 0 0 0 0 0 false) (T.Refused 22)
 
 abbrev pub in_rows : State → Event → List ℕ → Turn
-in_rows s E.Nothing bs = T.Next s
 in_rows s E.Name bs = T.Next s
 in_rows s E.Text bs = T.Refused 22
 in_rows s E.Other bs = T.Refused 22
@@ -91,7 +86,6 @@ behind_row true = L.Rows
 behind_row false = L.Top
 
 abbrev pub in_row : State → Event → List ℕ → Turn
-in_row s E.Nothing bs = T.Next s
 in_row s E.Name bs =
     pick (is_bad (row_kind bs) (row_slot (row_kind bs)) s.row) (T.Refused 21)
     (go L.Row (row_kind bs) s.top (add s.row (row_slot (row_kind bs))) 0 0 0 s.listed)
@@ -113,7 +107,6 @@ in_row s E.CloseObject bs = pick (row_whole s.row) (go (behind_row s.listed) 0 s
 
 -- a list of strings
 abbrev pub in_strings : Level → State → Event → List ℕ → Turn
-in_strings back s E.Nothing bs = T.Next s
 in_strings back s E.Name bs = T.Next s
 in_strings back s E.Text bs = T.Next s
 in_strings back s E.Other bs = T.Refused 22
@@ -123,10 +116,9 @@ in_strings back s E.OpenObject bs = T.Refused 22
 in_strings back s E.CloseObject bs = T.Next s
 
 abbrev pub in_principals : State → Event → List ℕ → Turn
-in_principals s E.Nothing bs = T.Next s
 in_principals s E.Name bs =
     pick (is_bad (aws_kind bs) (aws_kind bs) s.principals) (T.Refused 21)
-    (go L.Principals (aws_kind bs) s.top s.row (add s.principals (aws_kind bs)) 0 0 s.listed)
+    (go L.Principals 0 s.top s.row (add s.principals (aws_kind bs)) 0 0 s.listed)
 in_principals s E.Text bs = go L.Principals 0 s.top s.row s.principals 0 0 s.listed
 in_principals s E.Other bs = T.Refused 22
 in_principals s E.OpenList bs = go L.PrincipalStrings 0 s.top s.row s.principals 0 0 s.listed
@@ -135,10 +127,9 @@ in_principals s E.OpenObject bs = T.Refused 22
 in_principals s E.CloseObject bs = pick (aws_whole s.principals) (go L.Row 0 s.top s.row 0 0 0 s.listed) (T.Refused 22)
 
 abbrev pub in_operators : State → Event → List ℕ → Turn
-in_operators s E.Nothing bs = T.Next s
 in_operators s E.Name bs =
     pick (is_bad (operator_kind bs) (operator_kind bs) s.operators) (T.Refused 21)
-    (go L.Operators (operator_kind bs) s.top s.row 0 (add s.operators (operator_kind bs)) 0 s.listed)
+    (go L.Operators 0 s.top s.row 0 (add s.operators (operator_kind bs)) 0 s.listed)
 in_operators s E.Text bs = T.Refused 22
 in_operators s E.Other bs = T.Refused 22
 in_operators s E.OpenList bs = T.Refused 22
@@ -147,10 +138,9 @@ in_operators s E.OpenObject bs = go L.Keys 0 s.top s.row 0 s.operators 0 s.liste
 in_operators s E.CloseObject bs = go L.Row 0 s.top s.row 0 0 0 s.listed
 
 abbrev pub in_keys : State → Event → List ℕ → Turn
-in_keys s E.Nothing bs = T.Next s
 in_keys s E.Name bs =
     pick (is_bad (key_kind bs) (key_kind bs) s.keys) (T.Refused 21)
-    (go L.Keys (key_kind bs) s.top s.row 0 s.operators (add s.keys (key_kind bs)) s.listed)
+    (go L.Keys 0 s.top s.row 0 s.operators (add s.keys (key_kind bs)) s.listed)
 in_keys s E.Text bs = go L.Keys 0 s.top s.row 0 s.operators s.keys s.listed
 in_keys s E.Other bs = T.Refused 22
 in_keys s E.OpenList bs = go L.KeyStrings 0 s.top s.row 0 s.operators s.keys s.listed

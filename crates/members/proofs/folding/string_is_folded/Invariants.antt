@@ -1,16 +1,10 @@
 -- The invariant: what is left of the string says what is left of the name just where the whole does.
-use Prim.Native.Nat.{◌≤◌, ◌-◌}
-use mathlib.Core.Path.{◌≡◌}
-use mathlib.Core.List.{map}
-use lib.ListN.{length, drop}
+use Rattle.std.proofs.Common.{◌≡◌, map, drop}
 use Rattle.json_text.specs.Choice.{same_bytes}
 use Rattle.json_text.specs.Machinery.Pieces.{content_of}
 use Rattle.members.specs.Members.{small}
 use Rattle.members.proofs.folding.string_is_folded.Given as goal
 
-abbrev pub invariant-loop-i : goal.invariant-loop-i
-invariant-loop-i l =
-    (l.i ≤ length l.name) × (same_bytes (map small (content_of (drop l.at l.text))) (drop l.i l.name) ≡ same_bytes (map small (content_of (drop l.from l.text))) l.name)
-
-abbrev pub decreases-loop-i : goal.decreases-loop-i
-decreases-loop-i l = length l.name - l.i
+abbrev pub invariant-loop-wanted : goal.invariant-loop-wanted
+invariant-loop-wanted l =
+    same_bytes (map small (content_of (drop l.at l.text))) (drop l.wanted-index l.name) ≡ same_bytes (map small (content_of (drop l.from l.text))) l.name

@@ -1,9 +1,0 @@
--- `members::document::top_name` meets its contract: the test is that of `in_top` at a name.
-use mathlib.Core.Path.{sym, ◌∙◌}
-use Rattle.members.proofs.document.top_name.Goals as goal
-
-pub returns-then-is_bad : goal.returns-then-is_bad
-returns-then-is_bad c = rw (sym c.top_kind-kind.ensures.value, sym c.is_bad.ensures ∙ c.if-is_bad.true)
-
-pub returns : goal.returns
-returns c = rw (c.at_document.ensures, c.with_mark.ensures, sym c.top_kind-kind.ensures.value, sym c.is_bad.ensures ∙ c.if-is_bad.false)
