@@ -26,22 +26,6 @@ use Rattle.judging.specs.Machinery.Walk.{fresh_walk, closed_of, done_of, began_o
 use Rattle.judging.specs.declared.walk.Walk.{Walk}
 
 -- the loop: a record is one step, and a cut or strange record, and the end of the table, end the walk
-module _ (only : Bool) (column : ℕ) (v : Value) (w : Walk) (t : List ℕ) (at : ℕ) where
-  pub run_on : (i : Item) (s n : ℕ) → record_at t at ≡ R.Is i s n
-      → run_of only column v w (entries_from t at)
-      ≡ run_of only column v (step_of only column v w (entry_of i (take n (drop s t)))) (entries_from t (s + n))
-  run_on i s n e = ap (run_of only column v w) (goes_on_lem t at i s n e)
-
-  pub run-cut : record_at t at ≡ R.Cut → run_of only column v w (entries_from t at) ≡ w
-  run-cut e = ap (run_of only column v w) (ends-cut t at e)
-
-  pub run-strange : record_at t at ≡ R.Strange → run_of only column v w (entries_from t at) ≡ w
-  run-strange e = ap (run_of only column v w) (ends-strange t at e)
-
-  pub run_past : length t ≤ at → run_of only column v w (entries_from t at) ≡ w
-  run_past h = run-cut (past t at h)
-
--- the same of the walk over several columns
 module _ (only : Bool) (watched : ℕ → Bool) (value : ℕ → Value) (w : Walk) (column : ℕ) (t : List ℕ) (at : ℕ) where
   pub run-in-on : (i : Item) (s n : ℕ) → record_at t at ≡ R.Is i s n
       → run_in only watched value w column (entries_from t at)
@@ -226,7 +210,7 @@ module _ (only : Bool) (watched : ℕ → Bool) (value : ℕ → Value) where
   means (Entry.end ∷ es) k w column h few = means es k w column h few
 
   -- the walk gathers the rows of a table that count and hold in the columns watched for their values
-  walk-in-means : (es : List Entry) → length (table_of es) ≤ 64
+  pub walk-in-means : (es : List Entry) → length (table_of es) ≤ 64
       → done_of (run_in only watched value fresh_walk 0 es) ≡ rows_word (gathered_in only watched value) (table_of es)
   walk-in-means es few =
       means es 0 fresh_walk 0 (record { next = refl; apart = refl; below = omega arith }) (omega arith)

@@ -1,13 +1,13 @@
 // The judge: the rows that apply and the allow statements decide.
 ghost use Rattle.std.specs.Prelude.{◌≡◌, ◌≤◌, length};
-ghost use Rattle.judging.specs.Requests.{request_of};
+ghost use Rattle.judging.specs.Requests.{columns_of};
 ghost use Rattle.judging.specs.Meaning.{is_allow};
 ghost use Rattle.judging.specs.Machinery.Rows.{rows_word};
 ghost use Rattle.judging.specs.Judging.{rows_of, judged, judgement};
 ghost use Rattle.judging.specs.Machinery.Verdict.{verdict_of_rows};
 
 use crate::applying::applying_rows;
-use crate::request::{COLUMNS, Present, first_fault};
+use crate::request::{COLUMNS, Request, Value};
 use crate::rows::rows_in;
 use stored::reader::{ReadAnswer, read};
 
@@ -22,75 +22,44 @@ pub enum Judgement {
     Refused(u8, usize),
 }
 
-// The allow statements of a table.
+/// The allow statements of a table.
 pub fn allow_rows(table: &[u8]) -> u64
     requires { length (rows_of table.now) ≤ 64 }
     ensures { result ≡ rows_word (λ s. is_allow s.effect) (rows_of table.now) }
 {
-    rows_in(table, true, COLUMNS, false, table, 0)
+    rows_in(table, true, COLUMNS, Value::Absent)
 }
 
 // The verdict, given the rows that apply and those that allow.
 fn verdict_of(rows: u64, allow: u64) -> Judgement
     ensures { result ≡ verdict_of_rows rows allow }
 {
-    let allowed = rows & allow;
-    if allowed == rows {
-        if rows == 0 {
-            return Judgement::NotMentioned;
-        }
-        return Judgement::Allowed;
+    if rows & allow != rows {
+        Judgement::DeniedByRule
+    } else if rows == 0 {
+        Judgement::NotMentioned
+    } else {
+        Judgement::Allowed
     }
-    Judgement::DeniedByRule
 }
 
 // A request judged by a table that reads.
-fn judge_request(
-    table: &[u8],
-    principal: &[u8],
-    action: &[u8],
-    resource: &[u8],
-    present: Present,
-    vpc: &[u8],
-    prefix: &[u8],
-    vpce: &[u8],
-    referer: &[u8],
-    address: u32,
-) -> Judgement
+fn judge_request(table: &[u8], request: Request) -> Judgement
     requires { length (rows_of table.now) ≤ 64 }
-    ensures { result ≡ judged (request_of principal.now action.now resource.now present vpc.now prefix.now vpce.now referer.now address) (rows_of table.now) }
+    ensures { result ≡ judged (columns_of request.entry) (rows_of table.now) }
 {
-    let fault = first_fault(
-        principal, action, resource, present, vpc, prefix, vpce, referer, address,
-    );
-    if fault < COLUMNS {
-        return Judgement::Refused(9, fault);
+    match request.first_fault() {
+        Some(column) => Judgement::Refused(9, column),
+        None => verdict_of(applying_rows(table, request), allow_rows(table)),
     }
-    let rows = applying_rows(
-        table, principal, action, resource, present, vpc, prefix, vpce, referer, address,
-    );
-    verdict_of(rows, allow_rows(table))
 }
 
-// May this request pass? The table's refusal comes first, then 9 at the lowest faulty column, then the verdict.
-pub fn judge(
-    table: &[u8],
-    principal: &[u8],
-    action: &[u8],
-    resource: &[u8],
-    present: Present,
-    vpc: &[u8],
-    prefix: &[u8],
-    vpce: &[u8],
-    referer: &[u8],
-    address: u32,
-) -> Judgement
-    ensures { result ≡ judgement table.now (request_of principal.now action.now resource.now present vpc.now prefix.now vpce.now referer.now address) }
+/// May this request pass? The table's refusal comes first, then 9 at the lowest faulty column, then the verdict.
+pub fn judge(table: &[u8], request: Request) -> Judgement
+    ensures { result ≡ judgement table.now (columns_of request.entry) }
 {
     match read(table) {
-        ReadAnswer::Accepted(_) => judge_request(
-            table, principal, action, resource, present, vpc, prefix, vpce, referer, address,
-        ),
+        ReadAnswer::Accepted(_) => judge_request(table, request),
         ReadAnswer::Refused(number, place) => Judgement::Refused(number, place),
     }
 }

@@ -3,6 +3,8 @@
 #![tactic(auto)]
 
 pub mod applying;
+pub mod asked;
+mod gathering;
 pub mod judge;
 pub mod request;
 pub mod rows;

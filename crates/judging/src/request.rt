@@ -1,82 +1,126 @@
-// A request: which of its keys are there, and the lowest column that refusal 9 is given for.
-ghost use Rattle.std.specs.Prelude.{◌≡◌, true};
-ghost use Rattle.judging.specs.Requests.{is_faulty, first_fault, request_of, text, key_value};
+// A request: what its columns hold, which of its keys are there, and the lowest column that refusal 9 is given for.
 
+use matching::network::in_network;
+use matching::reading::Reading;
+use matching::value::value_matches;
 use stored::values::is_in_range;
 
-// The number of columns, which is also a column that no list speaks of.
+/// The number of columns, which is also a column that no list speaks of.
 pub const COLUMNS: usize = 8;
 
-// Which of columns 3 to 7 are there.
+// Columns 0 to 2 are needed, the keys behind them are not.
+const KEYS: usize = 3;
+
+/// What a column of a request holds.
 #[derive(Clone, Copy)]
-pub struct Present {
-    pub vpc: bool,
-    pub prefix: bool,
-    pub vpce: bool,
-    pub referer: bool,
-    pub address: bool,
+pub enum Value<'a> {
+    Absent,
+    Text(&'a [u8]),
+    Number(u32),
 }
 
-// Columns 0 to 2 hold one byte or more, each in 21 to 7E hex.
-fn is_faulty_needed(string: &[u8]) -> bool
-    ensures { result ≡ is_faulty 0 (text string.now) }
-{
-    if string.len() == 0 {
-        return true;
-    }
-    if is_in_range(string) {
-        return false;
-    }
-    true
-}
+impl<'a> Value<'a> {
+    ghost use Rattle.std.specs.Prelude.{◌≡◌, ◌≤◌, length};
+    ghost use Rattle.stored.specs.Tables.{Listed};
+    ghost use Rattle.judging.specs.Requests.{is_present, is_faulty, key_of, address_of, value_of};
+    ghost use Rattle.judging.specs.Meaning.{listed_matches};
 
-// Columns 3 to 6 are absent, or each byte lies in 21 to 7E hex.
-fn is_faulty_key(present: bool, string: &[u8]) -> bool
-    ensures { result ≡ is_faulty 3 (key_value present string.now) }
-{
-    if present {
-        if is_in_range(string) {
-            return false;
+    fn of_key(key: Option<&'a [u8]>) -> Value<'a>
+        ensures { value_of result ≡ key_of key.entry }
+    {
+        key.map_or(Value::Absent, Value::Text)
+    }
+
+    fn of_address(address: Option<u32>) -> Value<'a>
+        ensures { value_of result ≡ address_of address }
+    {
+        match address {
+            Some(number) => Value::Number(number),
+            None => Value::Absent,
         }
-        return true;
     }
-    false
+
+    pub(crate) fn is_present(self) -> bool
+        ensures { result ≡ is_present (value_of self.entry) }
+    {
+        !matches!(self, Value::Absent)
+    }
+
+    // A listed value matches it.
+    pub(crate) fn matches(self, reading: Reading, value: &[u8]) -> bool
+        requires { length value.now ≤ 511 }
+        ensures { result ≡ listed_matches reading (value_of self.entry) (Listed.text value.now) }
+    {
+        match self {
+            Value::Text(string) => value_matches(value, 0, value.len(), reading, string),
+            Value::Absent | Value::Number(_) => false,
+        }
+    }
+
+    // A listed network holds for it, however the values beside it are read.
+    pub(crate) fn lies_in(self, network: u32, length: u8) -> bool
+        ensures { (reading : Reading) → result ≡ listed_matches reading (value_of self.entry) (Listed.range network length) }
+    {
+        match self {
+            Value::Number(address) => in_network(address, network, length),
+            Value::Absent | Value::Text(_) => false,
+        }
+    }
+
+    // Columns 0 to 2 hold one byte or more; each byte lies in 21 to 7E hex.
+    fn is_faulty(self, column: usize) -> bool
+        ensures { result ≡ is_faulty column (value_of self.entry) }
+    {
+        match self {
+            Value::Text(string) => (column < KEYS && string.is_empty()) || !is_in_range(string),
+            Value::Absent | Value::Number(_) => column < KEYS,
+        }
+    }
 }
 
-// The lowest faulty column of a request, or the number of columns.
-pub(crate) fn first_fault(
-    principal: &[u8],
-    action: &[u8],
-    resource: &[u8],
-    present: Present,
-    vpc: &[u8],
-    prefix: &[u8],
-    vpce: &[u8],
-    referer: &[u8],
-    address: u32,
-) -> usize
-    ensures { result ≡ first_fault 0 (request_of principal.now action.now resource.now present vpc.now prefix.now vpce.now referer.now address) }
-{
-    if is_faulty_needed(principal) {
-        return 0;
+/// A request: a key that is not there is `None`.
+#[derive(Clone, Copy)]
+pub struct Request<'a> {
+    pub principal: &'a [u8],
+    pub action: &'a [u8],
+    pub resource: &'a [u8],
+    pub vpc: Option<&'a [u8]>,
+    pub prefix: Option<&'a [u8]>,
+    pub vpce: Option<&'a [u8]>,
+    pub referer: Option<&'a [u8]>,
+    pub address: Option<u32>,
+}
+
+impl<'a> Request<'a> {
+    ghost use Rattle.std.specs.Prelude.{◌≡◌};
+    ghost use Rattle.judging.specs.Requests.{column_of, columns_of, first_fault, fault_of, value_of};
+
+    /// What a column holds.
+    pub fn value(&self, column: usize) -> Value<'a>
+        ensures { value_of result ≡ column_of (columns_of self.now) column }
+    {
+        match column {
+            0 => Value::Text(self.principal),
+            1 => Value::Text(self.action),
+            2 => Value::Text(self.resource),
+            3 => Value::of_key(self.vpc),
+            4 => Value::of_key(self.prefix),
+            5 => Value::of_key(self.vpce),
+            6 => Value::of_key(self.referer),
+            7 => Value::of_address(self.address),
+            _ => Value::Absent,
+        }
     }
-    if is_faulty_needed(action) {
-        return 1;
+
+    // The lowest faulty column.
+    pub(crate) fn first_fault(&self) -> Option<usize>
+        ensures { result ≡ fault_of (first_fault 0 (columns_of self.now)) }
+    {
+        for column in 0..COLUMNS {
+            if self.value(column).is_faulty(column) {
+                return Some(column);
+            }
+        }
+        None
     }
-    if is_faulty_needed(resource) {
-        return 2;
-    }
-    if is_faulty_key(present.vpc, vpc) {
-        return 3;
-    }
-    if is_faulty_key(present.prefix, prefix) {
-        return 4;
-    }
-    if is_faulty_key(present.vpce, vpce) {
-        return 5;
-    }
-    if is_faulty_key(present.referer, referer) {
-        return 6;
-    }
-    COLUMNS
 }

@@ -14,7 +14,7 @@ use Rattle.stored.specs.declared.items.Item.{Item}
 use Rattle.stored.specs.declared.items.Item.TheVariants as I
 use Rattle.matching.specs.declared.reading.Reading.{Reading}
 use Rattle.matching.specs.declared.reading.Reading.TheVariants as R
-use Rattle.judging.specs.Requests.{Value, absent, text, number, is_present}
+use Rattle.judging.specs.Requests.{Value, is_present}
 use Rattle.judging.specs.Meaning.{listed_matches, sense, element_reading, operator_reading, element_holds, condition_holds, condition_column, holds, is_allow}
 use Rattle.judging.specs.declared.walk.Walk.{Walk}
 
@@ -113,10 +113,6 @@ run_of only column v w (e ∷ es) = run_of only column v (step_of only column v 
 -- the rows that the walk is to gather
 abbrev pub gathered : Bool → ℕ → Value → Statement → Bool
 gathered only column v s = counts_of only s.effect && holds column v s
-
--- the value in a column: an address in column 7, a string in any other
-abbrev pub value_in : ℕ → Bool → List ℕ → ℕ → Value
-value_in column present s a = pick present (pick (eqb column 7) (number a) (text s)) absent
 
 -- The same over several columns at once: those that are watched, each with its own value. A listed value is matched against the value of
 -- the column in which the last list opened.

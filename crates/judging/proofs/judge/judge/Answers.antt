@@ -2,7 +2,7 @@
 use mathlib.Core.Path.{sym, ◌∙◌}
 use native.Mathlib.Omega.{arith}
 use Rattle.stored.proofs.Accepting.{few}
-use Rattle.judging.specs.Requests.{request_of}
+use Rattle.judging.specs.Requests.{columns_of}
 use Rattle.judging.proofs.Refusing.{table-refused, table-reads}
 use Rattle.judging.proofs.judge.judge.Goals as goal
 
@@ -15,9 +15,9 @@ pub returns-in-Accepted : goal.returns-in-Accepted
 returns-in-Accepted c =
     let given = c.args in
     c.judge_request.ensures
-    ∙ table-reads given.table.now (request_of given.principal.now given.action.now given.resource.now given.present given.vpc.now given.prefix.now given.vpce.now given.referer.now given.address) c.in-Accepted.field-0 (sym c.read.ensures ∙ c.in-Accepted.is)
+    ∙ table-reads given.table.now (columns_of given.request) c.in-Accepted.field-0 (sym c.read.ensures ∙ c.in-Accepted.is)
 
 pub returns-in-Refused : goal.returns-in-Refused
 returns-in-Refused c =
     let given = c.args in
-    table-refused given.table.now (request_of given.principal.now given.action.now given.resource.now given.present given.vpc.now given.prefix.now given.vpce.now given.referer.now given.address) c.in-Refused.number c.in-Refused.place (sym c.read.ensures ∙ c.in-Refused.is)
+    table-refused given.table.now (columns_of given.request) c.in-Refused.number c.in-Refused.place (sym c.read.ensures ∙ c.in-Refused.is)

@@ -1,0 +1,15 @@
+-- The loop's invariant: the walk over the records from here on, from the state at hand, is the walk over all of them from the
+-- beginning. At the end no record is left, so that the state at hand is the whole walk's, which means the rows whose lists hold.
+use Rattle.std.proofs.Common.{◌≡◌, ◌-◌, ◌≤◌, length}
+use Rattle.stored.specs.Entries.{entries_from, entries_of}
+use Rattle.judging.specs.Machinery.Walk.{run_in, fresh_walk}
+use Rattle.judging.proofs.gathering.gathered_rows.Given as goal
+
+abbrev pub invariant-loop-at : goal.invariant-loop-at
+invariant-loop-at g l =
+    (l.at ≤ length l.table)
+    × (run_in l.only (g.A.Asked.watched l.asked) (g.A.Asked.held l.asked) l.walk l.column (entries_from l.table l.at)
+    ≡ run_in l.only (g.A.Asked.watched l.asked) (g.A.Asked.held l.asked) fresh_walk 0 (entries_of l.table))
+
+abbrev pub decreases-loop-at : goal.decreases-loop-at
+decreases-loop-at g l = length l.table - l.at
