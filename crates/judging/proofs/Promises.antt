@@ -7,20 +7,17 @@ use mathlib.Core.List.{List, [], ◌∷◌, map}
 use mathlib.Core.Logic.{◌↔◌}
 use native.Mathlib.Omega.{arith}
 use Rattle.stored.specs.Choice.{pick, some}
-use Rattle.stored.specs.Reading.{reading}
+use Rattle.stored.specs.Reading.{ReadAnswer as A, reading}
 use Rattle.stored.specs.Tables.{Listed, Statement}
 use Rattle.stored.specs.declared.items.Operator.TheVariants as O
 use Rattle.stored.specs.declared.items.Key.TheVariants as K
-use Rattle.stored.specs.declared.reader.ReadAnswer.TheVariants as A
 use Rattle.stored.proofs.Choosing.{never}
 use Rattle.matching.specs.Matches.{value_matches}
 use Rattle.matching.specs.Network.{agree}
 use Rattle.matching.specs.declared.reading.Reading.TheVariants as R
 use Rattle.judging.specs.Requests.{Value, absent, columns, column_of, first_fault}
 use Rattle.judging.specs.Meaning.{applies, holds, condition_holds, some_allows, some_denies, is_allow, is_allowed}
-use Rattle.judging.specs.Judging.{rows_of, verdict, judgement}
-use Rattle.judging.specs.declared.judge.Judgement.{Judgement}
-use Rattle.judging.specs.declared.judge.Judgement.TheVariants as J
+use Rattle.judging.specs.Judging.{Judgement as J, Judgement, rows_of, verdict, judgement}
 use Rattle.judging.proofs.RowSets.{some-split}
 use Rattle.judging.proofs.Refusing.{table-refused, table-reads, request-refused, request-sound}
 use Rattle.judging.proofs.ByColumn

@@ -2,12 +2,11 @@
 use Prim.Native.Nat.{ℕ}
 use mathlib.Core.Path.{◌≡◌, refl}
 use mathlib.Core.List.{List}
-use Rattle.stored.specs.Records.{record_at}
+use Rattle.stored.specs.Records.{Record as R, record_at}
 use Rattle.stored.specs.Machinery.Placing.{HasKind}
 use Rattle.stored.specs.Entries.{entry_of, item_of}
 use Rattle.stored.specs.declared.items.Item.{Item}
 use Rattle.stored.specs.declared.items.Item.TheVariants as I
-use Rattle.stored.specs.declared.records.Record.TheVariants as R
 use Rattle.stored.proofs.Walking.{value-short}
 
 pub record-has-kind : (t : List ℕ) (at : ℕ) (i : Item) (s n : ℕ) → record_at t at ≡ R.Is i s n → HasKind i n

@@ -3,15 +3,13 @@ use Prim.Native.Nat.{ℕ, ◌<◌, ◌≤◌}
 use mathlib.Core.Path.{◌≡◌}
 use mathlib.Core.List.{List}
 use borrow.Author.Tests.{lt-ltb, le-ltb}
-use Rattle.stored.specs.Reading.{reading}
+use Rattle.stored.specs.Reading.{ReadAnswer as A, reading}
 use Rattle.stored.specs.Tables.{Statement}
-use Rattle.stored.specs.declared.reader.ReadAnswer.TheVariants as A
 use Rattle.judging.specs.Requests.{Value, first_fault, columns}
 use Rattle.judging.specs.Meaning.{applies, is_allow}
 use Rattle.judging.specs.Machinery.Rows.{rows_word}
-use Rattle.judging.specs.Judging.{rows_of, verdict, judged, judgement}
+use Rattle.judging.specs.Judging.{Judgement as J, rows_of, verdict, judged, judgement}
 use Rattle.judging.specs.Machinery.Verdict.{verdict_of_rows}
-use Rattle.judging.specs.declared.judge.Judgement.TheVariants as J
 use Rattle.judging.proofs.RowSets.{verdict-rows}
 
 -- a table that does not read is refused

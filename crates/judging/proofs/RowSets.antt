@@ -16,9 +16,8 @@ use Rattle.stored.specs.Tables.{Statement}
 use Rattle.judging.specs.Requests.{Value}
 use Rattle.judging.specs.Meaning.{applies, is_allow, some_allows, some_denies}
 use Rattle.judging.specs.Machinery.Rows.{bit_of, rows_word}
-use Rattle.judging.specs.Judging.{verdict}
+use Rattle.judging.specs.Judging.{Judgement as J, verdict}
 use Rattle.judging.specs.Machinery.Verdict.{verdict_of_rows}
-use Rattle.judging.specs.declared.judge.Judgement.TheVariants as J
 
 -- words of one row more
 

@@ -15,7 +15,7 @@ use crate::rows::{element_reading, key_column, operator_reading};
 use crate::walk::Walk;
 use stored::items::{Effect, Item, Key, Operator, column_place, is_negated_column};
 use stored::operators::operator_row;
-use stored::records::{Record, record_at};
+use stored::records::record_at;
 
 fn is_allow(effect: Effect) -> bool
     ensures { result ≡ is_allow effect }
@@ -99,20 +99,18 @@ pub(crate) fn gathered_rows<A: Asked>(table: &[u8], only: bool, asked: &A) -> u6
     let mut walk = Walk::fresh();
     let mut column: usize = 0;
     let mut at: usize = 0;
-    while at < table.len() {
-        match record_at(table, at) {
-            Record::Is(item, start, size) => {
-                walk = step(walk, column, item, &table[start..start + size], only, asked);
-                column = column_behind(item, column);
-                at = start + size;
-            }
-            Record::Cut => {
-                return walk.done();
-            }
-            Record::Strange => {
-                return walk.done();
-            }
-        }
+    while let Ok(record) = record_at(table, at) {
+        let end = record.start + record.size;
+        walk = step(
+            walk,
+            column,
+            record.item,
+            &table[record.start..end],
+            only,
+            asked,
+        );
+        column = column_behind(record.item, column);
+        at = end;
     }
     walk.done()
 }

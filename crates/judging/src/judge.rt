@@ -3,23 +3,23 @@ ghost use Rattle.std.specs.Prelude.{◌≡◌, ◌≤◌, length};
 ghost use Rattle.judging.specs.Requests.{columns_of};
 ghost use Rattle.judging.specs.Meaning.{is_allow};
 ghost use Rattle.judging.specs.Machinery.Rows.{rows_word};
-ghost use Rattle.judging.specs.Judging.{rows_of, judged, judgement};
+ghost use Rattle.judging.specs.Judging.{rows_of, as_verdict, as_judgement, judged, judgement};
 ghost use Rattle.judging.specs.Machinery.Verdict.{verdict_of_rows};
 
 use crate::applying::applying_rows;
 use crate::request::{COLUMNS, Request, Value};
 use crate::rows::rows_in;
-use stored::reader::{ReadAnswer, read};
+use refusals::{Reason, Refusal};
+use stored::reader::read;
 
-#[derive(Clone, Copy)]
-pub enum Judgement {
+/// What the statements of a table say of a request.
+#[derive(Clone, Copy, Debug, PartialEq, Eq)]
+pub enum Verdict {
     Allowed,
-    // Some deny statement applies.
+    /// Some deny statement applies.
     DeniedByRule,
-    // No statement applies.
+    /// No statement applies.
     NotMentioned,
-    // The number of the refusal, and its place.
-    Refused(u8, usize),
 }
 
 /// The allow statements of a table.
@@ -31,35 +31,36 @@ pub fn allow_rows(table: &[u8]) -> u64
 }
 
 // The verdict, given the rows that apply and those that allow.
-fn verdict_of(rows: u64, allow: u64) -> Judgement
-    ensures { result ≡ verdict_of_rows rows allow }
+fn verdict_of(rows: u64, allow: u64) -> Verdict
+    ensures { as_verdict result ≡ verdict_of_rows rows allow }
 {
     if rows & allow != rows {
-        Judgement::DeniedByRule
+        Verdict::DeniedByRule
     } else if rows == 0 {
-        Judgement::NotMentioned
+        Verdict::NotMentioned
     } else {
-        Judgement::Allowed
+        Verdict::Allowed
     }
 }
 
 // A request judged by a table that reads.
-fn judge_request(table: &[u8], request: Request) -> Judgement
+fn judge_request(table: &[u8], request: Request) -> Result<Verdict, Refusal>
     requires { length (rows_of table.now) ≤ 64 }
-    ensures { result ≡ judged (columns_of request.entry) (rows_of table.now) }
+    ensures { as_judgement result ≡ judged (columns_of request.entry) (rows_of table.now) }
 {
     match request.first_fault() {
-        Some(column) => Judgement::Refused(9, column),
-        None => verdict_of(applying_rows(table, request), allow_rows(table)),
+        Some(column) => Err(Refusal {
+            reason: Reason::FaultyRequest,
+            place: column,
+        }),
+        None => Ok(verdict_of(applying_rows(table, request), allow_rows(table))),
     }
 }
 
 /// May this request pass? The table's refusal comes first, then 9 at the lowest faulty column, then the verdict.
-pub fn judge(table: &[u8], request: Request) -> Judgement
-    ensures { result ≡ judgement table.now (columns_of request.entry) }
+pub fn judge(table: &[u8], request: Request) -> Result<Verdict, Refusal>
+    ensures { as_judgement result ≡ judgement table.now (columns_of request.entry) }
 {
-    match read(table) {
-        ReadAnswer::Accepted(_) => judge_request(table, request),
-        ReadAnswer::Refused(number, place) => Judgement::Refused(number, place),
-    }
+    read(table)?;
+    judge_request(table, request)
 }

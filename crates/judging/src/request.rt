@@ -52,7 +52,7 @@ impl<'a> Value<'a> {
         ensures { result ≡ listed_matches reading (value_of self.entry) (Listed.text value.now) }
     {
         match self {
-            Value::Text(string) => value_matches(value, 0, value.len(), reading, string),
+            Value::Text(string) => value_matches(value, reading, string),
             Value::Absent | Value::Number(_) => false,
         }
     }

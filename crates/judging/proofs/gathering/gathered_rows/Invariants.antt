@@ -5,11 +5,11 @@ use Rattle.stored.specs.Entries.{entries_from, entries_of}
 use Rattle.judging.specs.Machinery.Walk.{run_in, fresh_walk}
 use Rattle.judging.proofs.gathering.gathered_rows.Given as goal
 
-abbrev pub invariant-loop-at : goal.invariant-loop-at
-invariant-loop-at g l =
+abbrev pub invariant-loop-record : goal.invariant-loop-record
+invariant-loop-record g l =
     (l.at ≤ length l.table)
     × (run_in l.only (g.A.Asked.watched l.asked) (g.A.Asked.held l.asked) l.walk l.column (entries_from l.table l.at)
     ≡ run_in l.only (g.A.Asked.watched l.asked) (g.A.Asked.held l.asked) fresh_walk 0 (entries_of l.table))
 
-abbrev pub decreases-loop-at : goal.decreases-loop-at
-decreases-loop-at g l = length l.table - l.at
+abbrev pub decreases-loop-record : goal.decreases-loop-record
+decreases-loop-record g l = length l.table - l.at
