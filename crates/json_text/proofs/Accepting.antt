@@ -1,9 +1,5 @@
 -- Which texts the machine takes from a phase and a stack on.
-use Rattle.std.proofs.Common.{Option, Some, None}
-use Prim.Native.Nat.{ℕ}
-use mathlib.Core.Bool.{Bool, false}
-use mathlib.Core.List.{List, [], ◌∷◌}
-use lib.Dec.{eqb}
+use Rattle.std.proofs.Common.{Option, Some, None, ℕ, Bool, false, List, [], ◌∷◌, eqb}
 use Rattle.json_text.specs.declared.machine.State.{State}
 use Rattle.json_text.specs.Choice.{pick}
 use Rattle.json_text.specs.Machinery.Machine.{step_in, at_rest}

@@ -1,11 +1,5 @@
 -- What the reader of texts finds is what is said of them.
-use Rattle.std.proofs.Common.{Option, Some, None}
-use Prim.Native.Nat.{ℕ}
-use mathlib.Core.Path.{◌≡◌, refl, sym, ◌∙◌}
-use mathlib.Core.Bool.{true, false}
-use mathlib.Core.List.{List, [], ◌++◌}
-use lib.ListN.{take}
-use native.Mathlib.Omega.{arith}
+use Rattle.std.proofs.Common.{Option, Some, None, ℕ, ◌≡◌, refl, sym, ◌∙◌, true, false, List, [], ◌++◌, take, arith}
 use Rattle.json_text.specs.Machinery.Reading.{fault_of}
 use Rattle.json_text.specs.Grammar.{Text}
 use Rattle.json_text.specs.Answers.{Says}

@@ -1,10 +1,5 @@
 -- What follows from the outcome of a choice by a test.
-use Prim.Native.Nat.{ℕ, ◌≤◌}
-use mathlib.Core.Path.{◌≡◌, refl}
-use mathlib.Core.Bool.{Bool, true, false, ◌&&◌}
-use lib.Dec.{leb}
-use native.Mathlib.Omega.{arith}
-use borrow.Author.Tests.{leb-true}
+use Rattle.std.proofs.Common.{ℕ, ◌≤◌, ◌≡◌, refl, Bool, true, false, ◌&&◌, leb, arith, leb-true}
 use Rattle.json_text.specs.Choice.{pick}
 use Rattle.json_text.specs.Bytes.{within}
 

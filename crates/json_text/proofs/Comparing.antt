@@ -1,13 +1,5 @@
 -- A string compared with bytes, one after the other.
-use Rattle.std.proofs.Common.{Option, Some, None, is_some, not}
-use Prim.Native.Nat.{ℕ, ◌+◌, ◌≤◌, ◌<◌}
-use mathlib.Core.Path.{◌≡◌, refl}
-use mathlib.Core.Bool.{Bool, true, false}
-use mathlib.Core.List.{List, ◌∷◌}
-use lib.ListN.{length, get_or, drop, drop_of_length-le}
-use lib.Seq.{drop-cons}
-use native.Mathlib.Numerals.{add-one}
-use borrow.Author.Tests.{eq-eqb, ne_eqb}
+use Rattle.std.proofs.Common.{Option, Some, None, is_some, not, ℕ, ◌+◌, ◌≤◌, ◌<◌, ◌≡◌, refl, Bool, true, false, List, ◌∷◌, length, get_or, drop, drop_of_length-le, drop-cons, add-one, eq-eqb, ne_eqb}
 use Rattle.json_text.specs.Choice.{same_bytes}
 use Rattle.json_text.specs.Machinery.Pieces.{piece_of, content_of}
 use Rattle.json_text.specs.declared.pieces.Piece.{Piece}

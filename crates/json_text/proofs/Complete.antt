@@ -1,13 +1,6 @@
 -- Every text of the grammar is taken.
-use Rattle.std.proofs.Common.{Option, None}
-use Prim.Native.Nat.{ℕ, suc, ◌%◌, ◌≤◌}
-use mathlib.Core.Path.{◌≡◌, refl, ◌∙◌, ap}
-use mathlib.Core.Bool.{Bool, true, false, ◌||◌}
-use mathlib.Core.List.{List, [], ◌∷◌}
-use lib.Dec.{eqb}
-use lib.ListN.{length}
-use native.Mathlib.Omega.{arith}
-use borrow.Author.Tests.{lt-ltb, le-leb, lt-leb, ne_eqb, eqb-true}
+use Rattle.std.proofs.Common.{Option, None, ℕ, suc, ◌%◌, ◌≤◌, ◌≡◌, refl, ◌∙◌, ap, Bool, true, false, ◌||◌, List, [], ◌∷◌, eqb, length, arith, lt-ltb, le-leb, ne_eqb, eqb-true}
+use borrow.Author.Tests.{lt-leb}
 use Rattle.json_text.specs.declared.machine.State.{State}
 use Rattle.json_text.specs.Choice.{pick}
 use Rattle.json_text.specs.Bytes.{within, is_blank, is_digit, is_exponent, is_sign}

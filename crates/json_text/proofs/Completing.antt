@@ -1,8 +1,5 @@
 -- From every place of the machine some bytes lead to the end.
-use Prim.Native.Nat.{ℕ}
-use mathlib.Core.Path.{◌≡◌, refl}
-use mathlib.Core.Bool.{true}
-use mathlib.Core.List.{List, [], ◌∷◌, ◌++◌}
+use Rattle.std.proofs.Common.{ℕ, ◌≡◌, refl, true, List, [], ◌∷◌, ◌++◌}
 use Rattle.json_text.specs.Machinery.Numbers.{can_end}
 use Rattle.json_text.specs.Machinery.Machine.{behind_role}
 use Rattle.json_text.specs.declared.strings.Inside.{Inside}

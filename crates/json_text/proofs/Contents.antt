@@ -1,13 +1,5 @@
 -- A string's bytes, read one after the other, are those that the grammar says.
-use Rattle.std.proofs.Common.{Option, Some, None}
-use Prim.Native.Nat.{ℕ, zero, suc, ◌+◌, ◌*◌, ◌%◌, ◌≤◌}
-use mathlib.Core.Path.{◌≡◌, refl, ap}
-use mathlib.Core.Bool.{Bool, true, false, not, ◌||◌}
-use mathlib.Core.List.{List, [], ◌∷◌}
-use lib.Dec.{eqb}
-use lib.ListN.{length, get_or, drop, length-drop}
-use native.Mathlib.Omega.{arith}
-use borrow.Author.Tests.{eqb-true, ne_eqb}
+use Rattle.std.proofs.Common.{Option, Some, None, ℕ, zero, suc, ◌+◌, ◌*◌, ◌%◌, ◌≤◌, ◌≡◌, refl, ap, Bool, true, false, not, ◌||◌, List, [], ◌∷◌, eqb, length, get_or, drop, length-drop, arith, eqb-true, ne_eqb}
 use Rattle.json_text.specs.Bytes.{within, is_simple, is_plain, is_tail, hex_of}
 use Rattle.json_text.specs.Grammar.{Characters}
 use Rattle.json_text.proofs.Choosing.{never, choose, ranged, both_left, both_right}

@@ -1,7 +1,5 @@
 -- Texts, and the first byte that fails in each.
-use Rattle.std.proofs.Common.{Some}
-use mathlib.Core.Path.{◌≡◌, refl}
-use mathlib.Core.List.{[], ◌∷◌}
+use Rattle.std.proofs.Common.{Some, ◌≡◌, refl, [], ◌∷◌}
 use Rattle.json_text.specs.Machinery.Machine.{step_of, is_ended}
 use Rattle.json_text.specs.Machinery.Reading.{fault_of}
 use Rattle.json_text.specs.Machinery.Pieces.{content_of}

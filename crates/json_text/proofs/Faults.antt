@@ -1,11 +1,5 @@
 -- Where the machine stops, in words of what it takes.
-use Rattle.std.proofs.Common.{Option, Some, None}
-use Prim.Native.Nat.{ℕ, zero, suc, ◌+◌, ◌≤◌, ◌<◌}
-use mathlib.Core.Path.{◌≡◌, refl, sym, subst}
-use mathlib.Core.Bool.{Bool, true, false}
-use mathlib.Core.List.{List, [], ◌∷◌, ◌++◌}
-use lib.ListN.{length, take}
-use native.Mathlib.Omega.{arith}
+use Rattle.std.proofs.Common.{Option, Some, None, ℕ, zero, suc, ◌+◌, ◌≤◌, ◌<◌, ◌≡◌, refl, sym, subst, Bool, true, false, List, [], ◌∷◌, ◌++◌, length, take, arith}
 use Rattle.json_text.specs.Choice.{pick}
 use Rattle.json_text.specs.Machinery.Machine.{step_in, step_of, is_ended}
 use Rattle.json_text.specs.declared.machine.Phase.{Phase}

@@ -1,11 +1,6 @@
 -- One byte of a string, a number or a word, backwards: what is still to come before it.
-use Prim.Native.Nat.{ℕ}
-use mathlib.Core.Path.{◌≡◌, refl, subst}
-use mathlib.Core.Bool.{Bool, true, false}
-use mathlib.Core.List.{List, [], ◌∷◌}
-use lib.Dec.{eqb, leb}
-use native.Mathlib.Omega.{arith}
-use borrow.Author.Tests.{leb-true, leb-false, eqb-true, eqb-false, le-leb}
+use Rattle.std.proofs.Common.{ℕ, ◌≡◌, refl, subst, Bool, true, false, List, [], ◌∷◌, eqb, leb, arith, leb-true, leb-false, eqb-true, le-leb}
+use borrow.Author.Tests.{eqb-false}
 use Rattle.json_text.specs.Bytes.{within, is_digit, is_hex, is_exponent, is_sign, is_simple, is_plain, is_tail}
 use Rattle.json_text.specs.Machinery.Strings.{taken_if, plain_step, wide_step, inside_step}
 use Rattle.json_text.specs.Machinery.Numbers.{counted_if, can_end, numeral_step}

@@ -1,7 +1,5 @@
 -- A tree can be read back from its tokens, so that a text has one tree, whichever way it is one of the grammar.
-use Prim.Native.Nat.{ℕ}
-use mathlib.Core.Path.{◌≡◌, sym, ◌∙◌}
-use mathlib.Core.List.{List, [], ◌∷◌}
+use Rattle.std.proofs.Common.{ℕ, ◌≡◌, sym, ◌∙◌, List, [], ◌∷◌}
 use Rattle.json_text.specs.Grammar.{Text}
 use Rattle.json_text.specs.Trees.{Shape, Tree, tree_of}
 use Rattle.json_text.specs.Trees.Shape.{one}

@@ -1,12 +1,5 @@
 -- What is promised of JSON texts, in statements that can be read without their proofs. What the reader answers is in `policy`'s promises.
-use Rattle.std.proofs.Common.{Option, Some, None}
-use Prim.Native.Nat.{ℕ}
-use mathlib.Core.Path.{◌≡◌, refl}
-use mathlib.Core.Bool.{Bool, true, false}
-use mathlib.Core.List.{List}
-use lib.Dec.{ltb}
-use native.Mathlib.Omega.{arith}
-use borrow.Author.Tests.{ltb-true, ltb-false}
+use Rattle.std.proofs.Common.{Option, Some, None, ℕ, ◌≡◌, refl, Bool, true, false, List, ltb, arith, ltb-true, ltb-false}
 use Rattle.json_text.specs.Grammar.{Text}
 use Rattle.json_text.specs.Trees.{tree_of}
 use Rattle.json_text.specs.Answers.{Says}

@@ -1,9 +1,5 @@
 -- What is still to come from a place of the machine on, in words of the grammar.
-use Prim.Native.Nat.{ℕ, zero, suc}
-use mathlib.Core.Path.{◌≡◌}
-use mathlib.Core.Bool.{true}
-use mathlib.Core.List.{List, [], ◌∷◌, ◌++◌}
-use lib.ListN.{length}
+use Rattle.std.proofs.Common.{ℕ, zero, suc, ◌≡◌, true, List, [], ◌∷◌, ◌++◌, length}
 use Rattle.json_text.specs.Bytes.{within, is_exponent, is_tail}
 use Rattle.json_text.specs.Grammar.{Characters, Digits, SomeDigits, Fraction, Power, Unsigned, Part, Reads, Blanks}
 use Rattle.json_text.specs.declared.strings.Inside.{Inside}

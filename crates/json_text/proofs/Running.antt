@@ -1,53 +1,30 @@
 -- Runs of bytes that leave the machine where it is: where they end, and that they change neither the tokens nor the fault.
-use Rattle.std.proofs.Common.{Option}
-use Prim.Native.Nat.{ℕ, suc, ◌+◌, ◌-◌, ◌≤◌, ◌<◌}
-use mathlib.Core.Path.{◌≡◌, refl, sym, ◌∙◌, ap}
-use mathlib.Core.Bool.{Bool, true, false}
-use mathlib.Core.List.{List, [], ◌∷◌}
-use lib.ListN.{length, get_or, drop, length-drop, drop_of_length-le}
-use lib.Seq.{drop-drop}
-use native.Mathlib.Omega.{arith}
+use Rattle.std.proofs.Common.{Option, ℕ, suc, ◌+◌, ◌-◌, ◌≤◌, ◌≡◌, refl, ◌∙◌, ap, Bool, true, false, List, [], ◌∷◌, length, take, drop, length-drop, arith}
+use Rattle.std.proofs.lemmas.List.{drop-drop, take_all}
+use Rattle.std.specs.List.{prefix_len}
+use Rattle.std.proofs.lemmas.List.Sums.{prefix_len-le-length}
 use Rattle.json_text.specs.Bytes.{is_blank, is_plain}
 use Rattle.json_text.specs.Grammar.{Part}
 use Rattle.json_text.specs.Machinery.Machine.{step_of}
 use Rattle.json_text.specs.Machinery.Reading.{fault_from}
 use Rattle.json_text.specs.Machinery.Tokens.{Token, tokens_from}
-use Rattle.json_text.specs.Machinery.Runs.{leading, run_of}
+use Rattle.json_text.specs.Machinery.Runs.{run_of}
+use Rattle.json_text.specs.declared.machine.State.{State}
 use Rattle.json_text.specs.declared.machine.Phase.{Phase}
 use Rattle.json_text.specs.declared.machine.Phase.TheVariants as P
 use Rattle.json_text.specs.declared.strings.Inside.TheVariants as I
-use Rattle.json_text.proofs.Comparing.{left}
 use Rattle.json_text.proofs.Complete.{phase_of}
 use Rattle.json_text.proofs.Tokenizing.{blank-stays}
 
--- one byte of a run, and its end
-pub run-next : (f : ℕ → Bool) (t : List ℕ) (at : ℕ) → at < length t → f (get_or t at 0) ≡ true
-    → at + leading f (drop at t) ≡ at + 1 + leading f (drop (at + 1) t)
-run-next f t at h e = rw (left t at h, e) (omega arith)
-
-pub run-stops : (f : ℕ → Bool) (t : List ℕ) (at : ℕ) → at < length t → f (get_or t at 0) ≡ false → at + leading f (drop at t) ≡ at
-run-stops f t at h e = rw (left t at h, e) (omega arith)
-
-pub run_ends : (f : ℕ → Bool) (t : List ℕ) (at : ℕ) → length t ≤ at → at + leading f (drop at t) ≡ at
-run_ends f t at h = rw (drop_of_length-le t h) (omega arith)
-
 -- a run is no longer than the list
-leading-within : (f : ℕ → Bool) (s : List ℕ) → leading f s ≤ length s
-leading-within f [] = omega arith
-leading-within f (b ∷ s) = go (f b) refl (leading-within f s)
-  where
-    go : (x : Bool) → f b ≡ x → leading f s ≤ length s → leading f (b ∷ s) ≤ length (b ∷ s)
-    go true e h = rw e (omega (arith, h))
-    go false e h = rw e (omega arith)
-
 pub run-within : (p : Phase) (s : List ℕ) → run_of p s ≤ length s
-run-within P.Value s = leading-within is_blank s
-run-within P.FirstElement s = leading-within is_blank s
-run-within P.FirstMember s = leading-within is_blank s
-run-within P.Member s = leading-within is_blank s
-run-within P.Colon s = leading-within is_blank s
-run-within P.After s = leading-within is_blank s
-run-within (P.Text role I.Plain) s = leading-within is_plain s
+run-within P.Value s = prefix_len-le-length is_blank s
+run-within P.FirstElement s = prefix_len-le-length is_blank s
+run-within P.FirstMember s = prefix_len-le-length is_blank s
+run-within P.Member s = prefix_len-le-length is_blank s
+run-within P.Colon s = prefix_len-le-length is_blank s
+run-within P.After s = prefix_len-le-length is_blank s
+run-within (P.Text role I.Plain) s = prefix_len-le-length is_plain s
 run-within (P.Text role I.Escape) s = omega arith
 run-within (P.Text role I.Code) s = omega arith
 run-within (P.Text role I.Zero) s = omega arith
@@ -65,15 +42,16 @@ run-within (P.Word d) s = omega arith
 
 -- what one byte of a class leaves as it was, a run of them does
 run-over {ℓ} : {X : Type ℓ} (f : ℕ → Bool) (g : ℕ → List ℕ → X) → ((n b : ℕ) (s : List ℕ) → f b ≡ true → g n (b ∷ s) ≡ g (n + 1) s)
-    → (n : ℕ) (s : List ℕ) → g n s ≡ g (n + leading f s) (drop (leading f s) s)
+    → (n : ℕ) (s : List ℕ) → g n s ≡ g (n + prefix_len f s) (drop (prefix_len f s) s)
 run-over f g h n [] = ap (λ (m : ℕ). g m []) (omega arith)
 run-over {X = X} f g h n (b ∷ s) = go (f b) refl (run-over f g h (n + 1) s)
   where
-    go : (x : Bool) → f b ≡ x → g (n + 1) s ≡ g (n + 1 + leading f s) (drop (leading f s) s)
-        → g n (b ∷ s) ≡ g (n + leading f (b ∷ s)) (drop (leading f (b ∷ s)) (b ∷ s))
+    go : (x : Bool) → f b ≡ x → g (n + 1) s ≡ g (n + 1 + prefix_len f s) (drop (prefix_len f s) s)
+        → g n (b ∷ s) ≡ g (n + prefix_len f (b ∷ s)) (drop (prefix_len f (b ∷ s)) (b ∷ s))
     go true e r =
-        let same : n + 1 + leading f s ≡ n + suc (leading f s) = omega arith in
-        rw e (h n b s e ∙ r ∙ ap (λ (m : ℕ). g m (drop (leading f s) s)) same)
+        let same : n + 1 + prefix_len f s ≡ n + suc (prefix_len f s) = omega arith in
+        let one : 1 + prefix_len f s ≡ suc (prefix_len f s) = omega arith in
+        rw (e, one) (h n b s e ∙ r ∙ ap (λ (m : ℕ). g m (drop (prefix_len f s) s)) same)
     go false e r = rw e (ap (λ (m : ℕ). g m (b ∷ s)) (omega arith))
 
 none_over {ℓ} : {X : Type ℓ} (g : ℕ → List ℕ → X) (n : ℕ) (s : List ℕ) → g n s ≡ g (n + 0) (drop 0 s)
@@ -84,7 +62,7 @@ module _ (w : ℕ) where
   abbrev tokens_by : Phase → ℕ → List ℕ → List Token
   tokens_by p n s = tokens_from s p w
 
-  blanks-over : (p : Part) (s : List ℕ) → tokens_from s (phase_of p) w ≡ tokens_from (drop (leading is_blank s) s) (phase_of p) w
+  blanks-over : (p : Part) (s : List ℕ) → tokens_from s (phase_of p) w ≡ tokens_from (drop (prefix_len is_blank s) s) (phase_of p) w
   blanks-over p s = run-over is_blank (tokens_by (phase_of p)) (λ n b r e. blank-stays p b r w e) 0 s
 
   pub tokens-over : (p : Phase) (s : List ℕ) → tokens_from s p w ≡ tokens_from (drop (run_of p s) s) p w
@@ -140,11 +118,13 @@ module _ (w : ℕ) where
   fault-over (P.Number x) n s = none_over (fault_by (P.Number x)) n s
   fault-over (P.Word d) n s = none_over (fault_by (P.Word d)) n s
 
--- where a run ends, from the text's beginning
-pub behind-run : (t : List ℕ) (at : ℕ) (p : Phase) (end : ℕ) → end ≡ at + run_of p (drop at t) → drop (run_of p (drop at t)) (drop at t) ≡ drop end t
-behind-run t at p end e = drop-drop (run_of p (drop at t)) at t ∙ ap (λ (n : ℕ). drop n t) (sym e)
+-- a run from a place of a text on, which has so many bytes
+module _ (t : List ℕ) (at n : ℕ) (s : State) (e : n ≡ run_of s.phase (take (length t - at) (drop at t))) where
+  run-here : n ≡ run_of s.phase (drop at t)
+  run-here = rw (take_all (length t - at) (drop at t) (simp length-drop (omega arith))) at e
 
-pub inside-run : (t : List ℕ) (at : ℕ) (p : Phase) (end : ℕ) → end ≡ at + run_of p (drop at t) → at ≤ length t → end ≤ length t
-inside-run t at p end e h =
-    let short : run_of p (drop at t) ≤ length t - at = rw length-drop at (run-within p (drop at t)) in
-    omega (arith, e, short, h)
+  pub tokens-behind : tokens_from (drop at t) s.phase s.stack ≡ tokens_from (drop (at + n) t) s.phase s.stack
+  tokens-behind = rw (← run-here, drop-drop n at t) at (tokens-over s.stack s.phase (drop at t))
+
+  pub fault-behind : fault_from (drop at t) at s ≡ fault_from (drop (at + n) t) (at + n) s
+  fault-behind = rw (← run-here, drop-drop n at t) at (fault-over s.stack s.phase at (drop at t))

@@ -1,10 +1,5 @@
 -- Every text that is taken is one of the grammar.
-use Rattle.std.proofs.Common.{Option, Some, None}
-use Prim.Native.Nat.{ℕ}
-use mathlib.Core.Path.{◌≡◌, refl, sym, ◌∙◌}
-use mathlib.Core.Bool.{Bool, true, false}
-use mathlib.Core.List.{List, [], ◌∷◌}
-use lib.Dec.{eqb}
+use Rattle.std.proofs.Common.{Option, Some, None, ℕ, ◌≡◌, refl, sym, ◌∙◌, Bool, true, false, List, [], ◌∷◌, eqb}
 use Rattle.json_text.specs.declared.machine.State.{State}
 use Rattle.json_text.specs.Choice.{pick}
 use Rattle.json_text.specs.Machinery.Numbers.{can_end}

@@ -1,13 +1,5 @@
 -- One step of the machine, seen from the grammar: where it leads, and that what may come there may come here behind the byte.
-use Rattle.std.proofs.Common.{Option, Some}
-use Prim.Native.Nat.{ℕ, suc, ◌<◌}
-use mathlib.Core.Path.{◌≡◌, refl, sym, ◌∙◌}
-use mathlib.Core.Bool.{Bool, true, false}
-use mathlib.Core.List.{List, [], ◌∷◌}
-use lib.Dec.{eqb, ltb}
-use lib.ListN.{length}
-use native.Mathlib.Omega.{arith}
-use borrow.Author.Tests.{ltb-true, ltb-false, eqb-true}
+use Rattle.std.proofs.Common.{Option, Some, ℕ, suc, ◌<◌, ◌≡◌, refl, sym, ◌∙◌, Bool, true, false, List, [], ◌∷◌, eqb, ltb, length, arith, ltb-true, ltb-false, eqb-true}
 use Rattle.json_text.specs.Bytes.{is_blank}
 use Rattle.json_text.specs.Machinery.Strings.{inside_step}
 use Rattle.json_text.specs.Machinery.Numbers.{numeral_step}

@@ -1,13 +1,5 @@
 -- The tokens that the machine meets in a text are those of its tree.
-use Rattle.std.proofs.Common.{Some, None}
-use Prim.Native.Nat.{ℕ, suc}
-use mathlib.Core.Path.{◌≡◌, refl, ◌∙◌, ap}
-use mathlib.Core.Bool.{Bool, true, false, ◌||◌}
-use mathlib.Core.List.{List, [], ◌∷◌}
-use lib.Dec.{eqb}
-use lib.ListN.{length}
-use native.Mathlib.Omega.{arith}
-use borrow.Author.Tests.{eqb-true, ne_eqb, lt-ltb}
+use Rattle.std.proofs.Common.{Some, None, ℕ, suc, ◌≡◌, refl, ◌∙◌, ap, Bool, true, false, ◌||◌, List, [], ◌∷◌, eqb, length, arith, eqb-true, ne_eqb, lt-ltb}
 use Rattle.json_text.specs.Bytes.{within, is_blank, is_digit, is_exponent, is_sign}
 use Rattle.json_text.specs.Machinery.Numbers.{can_end}
 use Rattle.json_text.specs.Machinery.Machine.{behind_role}

@@ -1,9 +1,5 @@
 -- The reader's loop: a byte that is taken, a byte that fails, and the end of the text.
-use Rattle.std.proofs.Common.{Some, None}
-use Prim.Native.Nat.{ℕ, ◌+◌, ◌≤◌, ◌<◌}
-use mathlib.Core.Path.{◌≡◌}
-use mathlib.Core.List.{List}
-use lib.ListN.{length, get_or, drop, drop_of_length-le}
+use Rattle.std.proofs.Common.{Some, None, ℕ, ◌+◌, ◌≤◌, ◌<◌, ◌≡◌, List, length, get_or, drop, drop_of_length-le}
 use Rattle.json_text.specs.Choice.{pick}
 use Rattle.json_text.specs.Machinery.Machine.{step_of, is_ended}
 use Rattle.json_text.specs.Machinery.Reading.{fault_from}

@@ -1,10 +1,5 @@
 -- A walk over the bytes of a text that takes every token as it is met: one byte, in terms of the tokens from there on.
-use Rattle.std.proofs.Common.{Some, None}
-use Prim.Native.Nat.{ℕ, suc, ◌+◌, ◌-◌, ◌≤◌, ◌<◌}
-use mathlib.Core.Path.{◌≡◌, ◌∙◌, ap}
-use mathlib.Core.List.{List, []}
-use lib.ListN.{length, get_or, drop, length-drop, drop_of_length-le}
-use native.Mathlib.Omega.{arith}
+use Rattle.std.proofs.Common.{Some, None, ℕ, suc, ◌+◌, ◌-◌, ◌≤◌, ◌<◌, ◌≡◌, ◌∙◌, ap, List, [], length, get_or, drop, length-drop, drop_of_length-le, arith}
 use Rattle.json_text.specs.Machinery.Machine.{step_in, step_of}
 use Rattle.json_text.specs.Machinery.Events.{event_of}
 use Rattle.json_text.specs.Machinery.Tokens.{marked, further, tokens_from}

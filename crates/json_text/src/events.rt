@@ -21,67 +21,53 @@ pub enum Event {
 fn value_event(byte: u8) -> Option<Event>
     ensures { result ≡ value_event byte }
 {
-    if is_blank(byte) {
-        return None;
+    match byte {
+        _ if is_blank(byte) => None,
+        b'"' => Some(Event::Text),
+        b'[' => Some(Event::OpenList),
+        b'{' => Some(Event::OpenObject),
+        _ => Some(Event::Other),
     }
-    if byte == 0x22 {
-        return Some(Event::Text);
-    }
-    if byte == 0x5B {
-        return Some(Event::OpenList);
-    }
-    if byte == 0x7B {
-        return Some(Event::OpenObject);
-    }
-    Some(Event::Other)
 }
 
 fn element_event(byte: u8) -> Option<Event>
     ensures { result ≡ element_event byte }
 {
-    if byte == 0x5D {
-        return Some(Event::CloseList);
+    match byte {
+        b']' => Some(Event::CloseList),
+        _ => value_event(byte),
     }
-    value_event(byte)
 }
 
 fn member_event(byte: u8) -> Option<Event>
     ensures { result ≡ member_event byte }
 {
-    if byte == 0x22 {
-        return Some(Event::Name);
+    match byte {
+        b'"' => Some(Event::Name),
+        b'}' => Some(Event::CloseObject),
+        _ => None,
     }
-    if byte == 0x7D {
-        return Some(Event::CloseObject);
-    }
-    None
 }
 
 fn close_event(byte: u8) -> Option<Event>
     ensures { result ≡ close_event byte }
 {
-    if byte == 0x5D {
-        return Some(Event::CloseList);
+    match byte {
+        b']' => Some(Event::CloseList),
+        b'}' => Some(Event::CloseObject),
+        _ => None,
     }
-    if byte == 0x7D {
-        return Some(Event::CloseObject);
-    }
-    None
 }
 
-// What a byte begins or ends in a phase, if anything.
+/// What a byte begins or ends in a phase, if anything.
 pub fn event_of(phase: Phase, byte: u8) -> Option<Event>
     ensures { result ≡ event_of phase byte }
 {
     match phase {
         Phase::Value => value_event(byte),
         Phase::FirstElement => element_event(byte),
-        Phase::FirstMember => member_event(byte),
-        Phase::Member => member_event(byte),
-        Phase::Colon => None,
-        Phase::After => close_event(byte),
-        Phase::Text(_, _) => None,
-        Phase::Number(_) => close_event(byte),
-        Phase::Word(_) => None,
+        Phase::FirstMember | Phase::Member => member_event(byte),
+        Phase::After | Phase::Number(_) => close_event(byte),
+        Phase::Colon | Phase::Text(_, _) | Phase::Word(_) => None,
     }
 }

@@ -1,5 +1,5 @@
 // One byte of a JSON text: what it leads to.
-ghost use Rattle.std.specs.Prelude.{◌≡◌};
+ghost use Rattle.std.specs.Prelude.{◌≡◌, ◌<◌};
 ghost use Rattle.json_text.specs.Machinery.Machine.{start_state, goes, opened, behind_role, after_step, scalar_step, value_step, element_step, member_step, name_step, colon_step, number_step, text_step, word_step, step_of, at_rest, is_ended};
 
 use crate::bytes::is_blank;
@@ -7,14 +7,14 @@ use crate::numbers::{Counted, Numeral, can_end, numeral_step};
 use crate::strings::{Inside, Within, inside_step};
 use crate::words::{Due, due_byte, due_next};
 
-// What a string is: a member's name or a value.
+/// What a string is: a member's name or a value.
 #[derive(Clone, Copy, Debug, PartialEq, Eq)]
 pub enum Role {
     Name,
     Content,
 }
 
-// What was read last, and so what is due.
+/// What was read last, and so what is due.
 #[derive(Clone, Copy, Debug, PartialEq, Eq)]
 pub enum Phase {
     // At the start, behind a colon, behind a comma in a list: a value.
@@ -35,14 +35,14 @@ pub enum Phase {
     Word(Due),
 }
 
-// The open brackets are the binary digits of `stack` behind a first 1, the innermost last: 1 for an object, 0 for a list.
+/// The open brackets are the binary digits of `stack` behind a first 1, the innermost last: 1 for an object, 0 for a list.
 #[derive(Clone, Copy, Debug, PartialEq, Eq)]
 pub struct State {
     pub phase: Phase,
     pub stack: u16,
 }
 
-// Nothing is read yet.
+/// Nothing is read yet.
 pub fn start() -> State
     ensures { result ≡ start_state }
 {
@@ -58,23 +58,16 @@ fn go(phase: Phase, stack: u16) -> Option<State>
     Some(State { phase, stack })
 }
 
-// A list or an object opens, unless eight are open.
-fn open_list(stack: u16) -> Option<State>
-    ensures { result ≡ opened stack 0 Phase.FirstElement }
+// A list (0) or an object (1) opens, unless eight are open.
+fn open(stack: u16, bracket: u16, phase: Phase) -> Option<State>
+    requires { bracket < 2 }
+    ensures { result ≡ opened stack bracket phase }
 {
     if stack < 256 {
-        return go(Phase::FirstElement, stack * 2);
+        go(phase, stack * 2 + bracket)
+    } else {
+        None
     }
-    None
-}
-
-fn open_object(stack: u16) -> Option<State>
-    ensures { result ≡ opened stack 1 Phase.FirstMember }
-{
-    if stack < 256 {
-        return go(Phase::FirstMember, stack * 2 + 1);
-    }
-    None
 }
 
 // Behind a value: a comma or the closing bracket.
@@ -82,27 +75,22 @@ fn after_step(stack: u16, byte: u8) -> Option<State>
     ensures { result ≡ after_step stack byte }
 {
     if is_blank(byte) {
-        return go(Phase::After, stack);
-    }
-    if stack == 1 {
-        return None;
-    }
-    if stack % 2 == 1 {
-        if byte == 0x2C {
-            return go(Phase::Member, stack);
+        go(Phase::After, stack)
+    } else if stack == 1 {
+        None
+    } else if stack % 2 == 1 {
+        match byte {
+            b',' => go(Phase::Member, stack),
+            b'}' => go(Phase::After, stack / 2),
+            _ => None,
         }
-        if byte == 0x7D {
-            return go(Phase::After, stack / 2);
+    } else {
+        match byte {
+            b',' => go(Phase::Value, stack),
+            b']' => go(Phase::After, stack / 2),
+            _ => None,
         }
-        return None;
     }
-    if byte == 0x2C {
-        return go(Phase::Value, stack);
-    }
-    if byte == 0x5D {
-        return go(Phase::After, stack / 2);
-    }
-    None
 }
 
 fn number_step(stack: u16, numeral: Numeral, byte: u8) -> Option<State>
@@ -119,85 +107,65 @@ fn number_step(stack: u16, numeral: Numeral, byte: u8) -> Option<State>
 fn scalar_step(stack: u16, byte: u8) -> Option<State>
     ensures { result ≡ scalar_step stack byte }
 {
-    if byte == 0x74 {
-        return go(Phase::Word(Due::Rue), stack);
+    match byte {
+        b't' => go(Phase::Word(Due::Rue), stack),
+        b'f' => go(Phase::Word(Due::Alse), stack),
+        b'n' => go(Phase::Word(Due::Ull), stack),
+        b'-' => go(Phase::Number(Numeral::Minus), stack),
+        _ => number_step(stack, Numeral::Minus, byte),
     }
-    if byte == 0x66 {
-        return go(Phase::Word(Due::Alse), stack);
-    }
-    if byte == 0x6E {
-        return go(Phase::Word(Due::Ull), stack);
-    }
-    if byte == 0x2D {
-        return go(Phase::Number(Numeral::Minus), stack);
-    }
-    number_step(stack, Numeral::Minus, byte)
 }
 
 fn value_step(stack: u16, byte: u8) -> Option<State>
     ensures { result ≡ value_step stack byte }
 {
-    if is_blank(byte) {
-        return go(Phase::Value, stack);
+    match byte {
+        _ if is_blank(byte) => go(Phase::Value, stack),
+        b'"' => go(Phase::Text(Role::Content, Inside::Plain), stack),
+        b'[' => open(stack, 0, Phase::FirstElement),
+        b'{' => open(stack, 1, Phase::FirstMember),
+        _ => scalar_step(stack, byte),
     }
-    if byte == 0x22 {
-        return go(Phase::Text(Role::Content, Inside::Plain), stack);
-    }
-    if byte == 0x5B {
-        return open_list(stack);
-    }
-    if byte == 0x7B {
-        return open_object(stack);
-    }
-    scalar_step(stack, byte)
 }
 
 fn element_step(stack: u16, byte: u8) -> Option<State>
     ensures { result ≡ element_step stack byte }
 {
-    if is_blank(byte) {
-        return go(Phase::FirstElement, stack);
+    match byte {
+        _ if is_blank(byte) => go(Phase::FirstElement, stack),
+        b']' => go(Phase::After, stack / 2),
+        _ => value_step(stack, byte),
     }
-    if byte == 0x5D {
-        return go(Phase::After, stack / 2);
-    }
-    value_step(stack, byte)
 }
 
 fn name_step(stack: u16, byte: u8) -> Option<State>
     ensures { result ≡ name_step stack byte }
 {
-    if is_blank(byte) {
-        return go(Phase::Member, stack);
+    match byte {
+        _ if is_blank(byte) => go(Phase::Member, stack),
+        b'"' => go(Phase::Text(Role::Name, Inside::Plain), stack),
+        _ => None,
     }
-    if byte == 0x22 {
-        return go(Phase::Text(Role::Name, Inside::Plain), stack);
-    }
-    None
 }
 
 fn member_step(stack: u16, byte: u8) -> Option<State>
     ensures { result ≡ member_step stack byte }
 {
-    if is_blank(byte) {
-        return go(Phase::FirstMember, stack);
+    match byte {
+        _ if is_blank(byte) => go(Phase::FirstMember, stack),
+        b'}' => go(Phase::After, stack / 2),
+        _ => name_step(stack, byte),
     }
-    if byte == 0x7D {
-        return go(Phase::After, stack / 2);
-    }
-    name_step(stack, byte)
 }
 
 fn colon_step(stack: u16, byte: u8) -> Option<State>
     ensures { result ≡ colon_step stack byte }
 {
-    if is_blank(byte) {
-        return go(Phase::Colon, stack);
+    match byte {
+        _ if is_blank(byte) => go(Phase::Colon, stack),
+        b':' => go(Phase::Value, stack),
+        _ => None,
     }
-    if byte == 0x3A {
-        return go(Phase::Value, stack);
-    }
-    None
 }
 
 fn behind_role(role: Role) -> Phase
@@ -222,22 +190,21 @@ fn text_step(stack: u16, role: Role, inside: Inside, byte: u8) -> Option<State>
 fn word_step(stack: u16, due: Due, byte: u8) -> Option<State>
     ensures { result ≡ word_step stack due byte }
 {
-    if byte == due_byte(due) {
-        match due_next(due) {
-            Some(next) => go(Phase::Word(next), stack),
-            None => go(Phase::After, stack),
-        }
-    } else {
-        None
+    if byte != due_byte(due) {
+        return None;
+    }
+    match due_next(due) {
+        Some(next) => go(Phase::Word(next), stack),
+        None => go(Phase::After, stack),
     }
 }
 
-// One byte: what it leads to, if it may come there.
+/// One byte: what it leads to, if it may come there.
+#[tactic(auto, unfolding(crate::specs::Machinery::Machine::step_of))]
 pub fn step(state: State, byte: u8) -> Option<State>
     ensures { result ≡ step_of state byte }
 {
-    let phase = state.phase;
-    let stack = state.stack;
+    let State { phase, stack } = state;
     match phase {
         Phase::Value => value_step(stack, byte),
         Phase::FirstElement => element_step(stack, byte),
@@ -256,26 +223,16 @@ fn at_rest(phase: Phase) -> bool
     ensures { result ≡ at_rest phase }
 {
     match phase {
-        Phase::Value => false,
-        Phase::FirstElement => false,
-        Phase::FirstMember => false,
-        Phase::Member => false,
-        Phase::Colon => false,
         Phase::After => true,
-        Phase::Text(_, _) => false,
         Phase::Number(numeral) => can_end(numeral),
-        Phase::Word(_) => false,
+        _ => false,
     }
 }
 
-// The text may end here.
+/// The text may end here.
+#[tactic(auto, unfolding(crate::specs::Machinery::Machine::is_ended))]
 pub fn is_ended(state: State) -> bool
     ensures { result ≡ is_ended state }
 {
-    let phase = state.phase;
-    let stack = state.stack;
-    if at_rest(phase) {
-        return stack == 1;
-    }
-    false
+    at_rest(state.phase) && state.stack == 1
 }

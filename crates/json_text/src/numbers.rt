@@ -2,9 +2,9 @@
 ghost use Rattle.std.specs.Prelude.{◌≡◌};
 ghost use Rattle.json_text.specs.Machinery.Numbers.{counted_if, minus_step, tail_step, whole_step, part_step, exponent_step, power_step, numeral_step, can_end};
 
-use crate::bytes::{is_between, is_digit, is_exponent, is_sign};
+use crate::bytes::{is_digit, is_exponent, is_sign};
 
-// What was read last.
+/// What was read last.
 #[derive(Clone, Copy, Debug, PartialEq, Eq)]
 pub enum Numeral {
     Minus,
@@ -30,70 +30,71 @@ fn counted_if(good: bool, next: Numeral) -> Counted
     ensures { result ≡ counted_if good next }
 {
     if good {
-        return Counted::Goes(next);
+        Counted::Goes(next)
+    } else {
+        Counted::Fails
     }
-    Counted::Fails
 }
 
 fn minus_step(byte: u8) -> Counted
     ensures { result ≡ minus_step byte }
 {
-    if byte == 0x30 {
-        return Counted::Goes(Numeral::Zero);
+    match byte {
+        b'0' => Counted::Goes(Numeral::Zero),
+        b'1'..=b'9' => Counted::Goes(Numeral::Whole),
+        _ => Counted::Fails,
     }
-    counted_if(is_between(0x31, 0x39, byte), Numeral::Whole)
 }
 
 // Behind the whole part: a point, an exponent, or the end.
 fn tail_step(byte: u8) -> Counted
     ensures { result ≡ tail_step byte }
 {
-    if byte == 0x2E {
-        return Counted::Goes(Numeral::Point);
+    match byte {
+        b'.' => Counted::Goes(Numeral::Point),
+        _ if is_exponent(byte) => Counted::Goes(Numeral::Exponent),
+        _ => Counted::Ends,
     }
-    if is_exponent(byte) {
-        return Counted::Goes(Numeral::Exponent);
-    }
-    Counted::Ends
 }
 
 fn whole_step(byte: u8) -> Counted
     ensures { result ≡ whole_step byte }
 {
     if is_digit(byte) {
-        return Counted::Goes(Numeral::Whole);
+        Counted::Goes(Numeral::Whole)
+    } else {
+        tail_step(byte)
     }
-    tail_step(byte)
 }
 
 fn part_step(byte: u8) -> Counted
     ensures { result ≡ part_step byte }
 {
-    if is_digit(byte) {
-        return Counted::Goes(Numeral::Part);
+    match byte {
+        _ if is_digit(byte) => Counted::Goes(Numeral::Part),
+        _ if is_exponent(byte) => Counted::Goes(Numeral::Exponent),
+        _ => Counted::Ends,
     }
-    if is_exponent(byte) {
-        return Counted::Goes(Numeral::Exponent);
-    }
-    Counted::Ends
 }
 
 fn exponent_step(byte: u8) -> Counted
     ensures { result ≡ exponent_step byte }
 {
     if is_sign(byte) {
-        return Counted::Goes(Numeral::Sign);
+        Counted::Goes(Numeral::Sign)
+    } else {
+        counted_if(is_digit(byte), Numeral::Power)
     }
-    counted_if(is_digit(byte), Numeral::Power)
 }
 
 fn power_step(byte: u8) -> Counted
     ensures { result ≡ power_step byte }
 {
     if is_digit(byte) {
-        return Counted::Goes(Numeral::Power);
+        Counted::Goes(Numeral::Power)
+    } else {
+        Counted::Ends
     }
-    Counted::Ends
 }
 
 // One byte of a number, or behind it.
@@ -116,14 +117,8 @@ pub(crate) fn numeral_step(numeral: Numeral, byte: u8) -> Counted
 pub(crate) fn can_end(numeral: Numeral) -> bool
     ensures { result ≡ can_end numeral }
 {
-    match numeral {
-        Numeral::Minus => false,
-        Numeral::Zero => true,
-        Numeral::Whole => true,
-        Numeral::Point => false,
-        Numeral::Part => true,
-        Numeral::Exponent => false,
-        Numeral::Sign => false,
-        Numeral::Power => true,
-    }
+    matches!(
+        numeral,
+        Numeral::Zero | Numeral::Whole | Numeral::Part | Numeral::Power
+    )
 }

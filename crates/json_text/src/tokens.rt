@@ -4,16 +4,16 @@ ghost use Rattle.json_text.specs.Machinery.Marks.{start_mark, tokens_at, met_tok
 
 use crate::events::{Event, event_of};
 use crate::machine::{State, start, step};
-use crate::runs::run_end;
+use crate::runs::run_of;
 
-// A place in a text, with the machine's state there.
+/// A place in a text, with the machine's state there.
 #[derive(Clone, Copy, Debug, PartialEq, Eq)]
 pub struct Mark {
     pub at: usize,
     pub state: State,
 }
 
-// What begins or ends, its place, and where to go on: behind its first byte.
+/// What begins or ends, its place, and where to go on: behind its first byte.
 #[derive(Clone, Copy, Debug, PartialEq, Eq)]
 pub struct Token {
     pub event: Event,
@@ -21,7 +21,7 @@ pub struct Token {
     pub behind: Mark,
 }
 
-// The beginning of a text.
+/// The beginning of a text.
 pub fn first_mark() -> Mark
     ensures { result ≡ start_mark }
 {
@@ -31,7 +31,7 @@ pub fn first_mark() -> Mark
     }
 }
 
-// The next token from a place on. In a text with a fault there is none behind the byte that fails.
+/// The next token from a place on. In a text with a fault there is none behind the byte that fails.
 pub fn next_token(text: &[u8], from: Mark) -> Option<Token>
     ensures tokens { tokens_at text.now from ≡ met_tokens text.now result }
     ensures ahead { Ahead from.at (length text.now) result }
@@ -52,7 +52,8 @@ pub fn next_token(text: &[u8], from: Mark) -> Option<Token>
             return Some(Token { event, at, behind });
         }
         state = next?;
-        at = run_end(text, at + 1, state.phase);
+        at += 1;
+        at += run_of(&text[at..], state.phase);
     }
     None
 }

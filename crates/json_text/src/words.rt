@@ -2,7 +2,7 @@
 ghost use Rattle.std.specs.Prelude.{◌≡◌};
 ghost use Rattle.json_text.specs.Machinery.Words.{due_byte, due_next};
 
-// The letters that are due.
+/// The letters that are due.
 #[derive(Clone, Copy, Debug, PartialEq, Eq)]
 pub enum Due {
     Rue,
@@ -21,15 +21,15 @@ pub(crate) fn due_byte(due: Due) -> u8
     ensures { result ≡ due_byte due }
 {
     match due {
-        Due::Rue => 0x72,
-        Due::Ue => 0x75,
-        Due::E => 0x65,
-        Due::Alse => 0x61,
-        Due::Lse => 0x6C,
-        Due::Se => 0x73,
-        Due::Ull => 0x75,
-        Due::Ll => 0x6C,
-        Due::L => 0x6C,
+        Due::Rue => b'r',
+        Due::Ue => b'u',
+        Due::E => b'e',
+        Due::Alse => b'a',
+        Due::Lse => b'l',
+        Due::Se => b's',
+        Due::Ull => b'u',
+        Due::Ll => b'l',
+        Due::L => b'l',
     }
 }
 

@@ -1,16 +1,12 @@
 -- Runs of bytes that leave the machine where it is.
-use Rattle.std.specs.Prelude.{ℕ, suc, Bool, true, false, List, [], ◌∷◌}
+use Rattle.std.specs.Prelude.{ℕ, Bool, true, false, List}
+use Rattle.std.specs.List.{prefix_len}
 use Rattle.json_text.specs.Choice.{pick}
 use Rattle.json_text.specs.Bytes.{is_blank, is_plain}
 use Rattle.json_text.specs.declared.strings.Inside.{Inside}
 use Rattle.json_text.specs.declared.strings.Inside.TheVariants as I
 use Rattle.json_text.specs.declared.machine.Phase.{Phase}
 use Rattle.json_text.specs.declared.machine.Phase.TheVariants as P
-
--- how many bytes of a class a list begins with
-abbrev pub leading : (ℕ → Bool) → List ℕ → ℕ
-leading f [] = 0
-leading f (b ∷ s) = pick (f b) (suc (leading f s)) 0
 
 abbrev pub is_plain_inside : Inside → Bool
 is_plain_inside I.Plain = true
@@ -51,4 +47,4 @@ is_between_tokens (P.Word d) = false
 
 -- how many bytes leave the machine in a phase
 abbrev pub run_of : Phase → List ℕ → ℕ
-run_of p s = pick (is_in_string p) (leading is_plain s) (pick (is_between_tokens p) (leading is_blank s) 0)
+run_of p s = pick (is_in_string p) (prefix_len is_plain s) (pick (is_between_tokens p) (prefix_len is_blank s) 0)

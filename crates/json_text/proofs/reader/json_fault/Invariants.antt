@@ -1,7 +1,5 @@
 -- The invariant: what is left to read, from the place and the state at hand, gives the answer for the whole text.
-use Prim.Native.Nat.{◌≤◌, ◌-◌}
-use mathlib.Core.Path.{◌≡◌}
-use lib.ListN.{length, drop}
+use Rattle.std.proofs.Common.{◌≤◌, ◌-◌, ◌≡◌, length, drop}
 use Rattle.json_text.specs.Machinery.Machine.{start_state}
 use Rattle.json_text.specs.Machinery.Reading.{fault_from}
 use Rattle.json_text.proofs.reader.json_fault.Given as goal

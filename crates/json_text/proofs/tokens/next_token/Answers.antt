@@ -1,7 +1,6 @@
 -- `json_text::tokens::next_token` meets its contract: a byte that begins or ends something is the next token, others are passed over.
-use Rattle.std.proofs.Common.{◌+◌, sym, ◌∙◌, ap, arith, List, ℕ, drop}
-use Rattle.json_text.specs.Machinery.Tokens.{tokens_from}
-use Rattle.json_text.proofs.Running.{tokens-over, behind-run}
+use Rattle.std.proofs.Common.{◌+◌, sym, ◌∙◌, arith}
+use Rattle.json_text.proofs.Running.{tokens-behind}
 use Rattle.json_text.proofs.Walking.{taken, passed, broken, failed}
 use Rattle.json_text.proofs.tokens.next_token.Goals as goal
 
@@ -30,8 +29,8 @@ loop-at-preserved c =
     let text = c.args.text.now in
     let next = c.in_ok-state.state in
     let on = sym c.step-next.ensures ∙ c.in_ok-state.was in (
-      omega (arith, l.invariant.0, c.run_end-at.ensures),
-      l.invariant.1 ∙ passed text l.at l.state c.loop-at-test.true next on (sym c.event_of.ensures ∙ c.in_default.is)
-          ∙ tokens-over next.stack next.phase (drop (l.at + 1) text)
-          ∙ ap (λ (s : List ℕ). tokens_from s next.phase next.stack) (behind-run text (l.at + 1) next.phase c.run_end-at.result c.run_end-at.ensures),
+      omega (arith, l.invariant.0),
+      l.invariant.1
+          ∙ passed text l.at l.state c.loop-at-test.true next on (sym c.event_of.ensures ∙ c.in_default.is)
+          ∙ tokens-behind text (l.at + 1) c.run_of-at.result next c.run_of-at.ensures.run,
     )
