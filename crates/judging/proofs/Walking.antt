@@ -3,40 +3,23 @@
 use Prim.Native.Nat.{ℕ, suc, ◌+◌, ◌*◌, ◌%◌, ◌^◌, ◌<◌, ◌≤◌}
 use mathlib.Core.Path.{◌≡◌, refl, sym, ◌∙◌, ap}
 use mathlib.Core.Bool.{Bool, true, false, not, ◌&&◌, ◌||◌, or_assoc, or-false, and-true}
-use Rattle.std.proofs.Common.{Err}
 use mathlib.Core.List.{List, [], ◌∷◌}
 use native.Mathlib.Nat.{pow-succ', mod-eq_of_lt, one-mul, mul-add, mul_assoc}
 use native.Mathlib.Omega.{arith}
 use lib.Bits.{bit_or, or_shifted_r}
 use lib.Dec.{eqb}
-use lib.ListN.{length, take, drop}
+use lib.ListN.{length}
 use lib.Pow.{pow-lt}
 use Rattle.stored.specs.Choice.{pick, some, every}
 use Rattle.stored.specs.Items.{column_place, column_negated, key_code}
 use Rattle.stored.specs.Operators.{row_of}
-use Rattle.stored.specs.Records.{Record as R, as_record, record_at}
-use Rattle.stored.specs.declared.records.RecordFault.{RecordFault}
-use Rattle.stored.specs.declared.records.RecordFault.TheVariants as F
-use Rattle.stored.specs.Entries.{Entry, entry_of, entries_from}
+use Rattle.stored.specs.Entries.{Entry}
 use Rattle.stored.specs.Tables.{Listed, Statement, Part, empty, gather, table_of}
-use Rattle.stored.specs.declared.items.Item.{Item}
-use Rattle.stored.proofs.Walking.{goes_on_lem, ends-cut, ends-strange}
 use Rattle.judging.specs.Requests.{Value, is_present, column_of}
 use Rattle.judging.specs.Meaning.{listed_matches, sense, element_reading, operator_reading, holds, applies}
 use Rattle.judging.specs.Machinery.Rows.{bit_of, rows_word}
-use Rattle.judging.specs.Machinery.Walk.{fresh_walk, closed_of, done_of, began_of, matters_of, seen_of, element_begun, condition_begun, counts_of, step_of, run_of, gathered, column_behind, step_in, run_in, element_asked, condition_asked, gathered_in, every_column}
+use Rattle.judging.specs.Machinery.Walk.{fresh_walk, closed_of, done_of, began_of, matters_of, seen_of, element_begun, condition_begun, counts_of, step_of, run_of, gathered, step_in, run_in, element_asked, condition_asked, gathered_in, every_column}
 use Rattle.judging.specs.declared.walk.Walk.{Walk}
-
--- the loop: a record is one step, and no record ends the walk
-module _ (only : Bool) (watched : ℕ → Bool) (value : ℕ → Value) (w : Walk) (column : ℕ) (t : List ℕ) (at : ℕ) where
-  pub run-in-on : (i : Item) (s n : ℕ) → record_at t at ≡ R.Is i s n
-      → run_in only watched value w column (entries_from t at)
-      ≡ run_in only watched value (step_in only watched value w column (entry_of i (take n (drop s t)))) (column_behind column (entry_of i (take n (drop s t)))) (entries_from t (s + n))
-  run-in-on i s n e = ap (run_in only watched value w column) (goes_on_lem t at i s n e)
-
-  pub run-in-ends : (fault : RecordFault) → as_record (Err fault) ≡ record_at t at → run_in only watched value w column (entries_from t at) ≡ w
-  run-in-ends F.Cut e = ap (run_in only watched value w column) (ends-cut t at (sym e))
-  run-in-ends F.Strange e = ap (run_in only watched value w column) (ends-strange t at (sym e))
 
 -- what the lists of a row come to
 

@@ -2,7 +2,6 @@
 ghost use Rattle.std.specs.Prelude.{◌≡◌, ◌≤◌, ◌+◌, length};
 ghost use Rattle.stored.specs.Items.{key_code};
 ghost use Rattle.stored.specs.Operators.{row_of};
-ghost use Rattle.stored.specs.Machinery.Placing.{HasKind};
 ghost use Rattle.stored.specs.Entries.{entry_of};
 ghost use Rattle.judging.specs.Requests.{is_present};
 ghost use Rattle.judging.specs.Meaning.{is_allow, operator_reading};
@@ -13,9 +12,9 @@ ghost use Rattle.judging.specs.Judging.{rows_of};
 use crate::asked::Asked;
 use crate::rows::{element_reading, key_column, operator_reading};
 use crate::walk::Walk;
+use stored::entries::{Entry, entries_of};
 use stored::items::{Effect, Item, Key, Operator, column_place, is_negated_column};
 use stored::operators::operator_row;
-use stored::records::record_at;
 
 fn is_allow(effect: Effect) -> bool
     ensures { result ≡ is_allow effect }
@@ -40,18 +39,10 @@ fn condition_asked<A: Asked>(walk: Walk, operator: Operator, key: Key, asked: &A
 
 // One record; column: that of the last list opened.
 #[tactic(auto, unfolding(crate::specs::Machinery::Walk::step_in))]
-fn step<A: Asked>(
-    walk: Walk,
-    column: usize,
-    item: Item,
-    bytes: &[u8],
-    only: bool,
-    asked: &A,
-) -> Walk
-    requires { HasKind item (length bytes.now) }
-    ensures { result ≡ step_in only (A.watched asked.now) (A.held asked.now) walk column (entry_of item bytes.now) }
+fn step<A: Asked>(walk: Walk, column: usize, entry: Entry, only: bool, asked: &A) -> Walk
+    ensures { result ≡ step_in only (A.watched asked.now) (A.held asked.now) walk column (entry_of entry.entry.item entry.entry.bytes.now) }
 {
-    match item {
+    match entry.item {
         Item::Start(_) => walk,
         Item::Statement(effect) => walk.began(!only || is_allow(effect)),
         Item::Column(name) => walk.opened(
@@ -70,7 +61,7 @@ fn step<A: Asked>(
         }
         Item::Value => {
             if walk.matters() {
-                walk.seen(asked.holds(column).matches(walk.reading, bytes))
+                walk.seen(asked.holds(column).matches(walk.reading, entry.bytes))
             } else {
                 walk
             }
@@ -98,19 +89,9 @@ pub(crate) fn gathered_rows<A: Asked>(table: &[u8], only: bool, asked: &A) -> u6
 {
     let mut walk = Walk::fresh();
     let mut column: usize = 0;
-    let mut at: usize = 0;
-    while let Ok(record) = record_at(table, at) {
-        let end = record.start + record.size;
-        walk = step(
-            walk,
-            column,
-            record.item,
-            &table[record.start..end],
-            only,
-            asked,
-        );
-        column = column_behind(record.item, column);
-        at = end;
+    for entry in entries_of(table) {
+        walk = step(walk, column, entry, only, asked);
+        column = column_behind(entry.item, column);
     }
     walk.done()
 }
