@@ -5,7 +5,7 @@ ghost use Rattle.judging.specs.Machinery.Walk.{every_column};
 
 use crate::request::{Request, Value};
 
-pub trait Asked {
+pub(crate) trait Asked {
     ghost watched: { Self → ℕ → Bool };
 
     ghost held: { Self → ℕ → Value };
@@ -36,7 +36,7 @@ impl<'a> Asked for Request<'a> {
 
 // A column alone.
 #[derive(Clone, Copy)]
-pub struct InColumn<'a> {
+pub(crate) struct InColumn<'a> {
     pub column: usize,
     pub value: Value<'a>,
 }

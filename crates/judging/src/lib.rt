@@ -3,7 +3,7 @@
 #![tactic(auto)]
 
 pub mod applying;
-pub mod asked;
+mod asked;
 mod gathering;
 pub mod judge;
 pub mod request;

@@ -95,8 +95,8 @@ impl<'a> Request<'a> {
     ghost use Rattle.std.specs.Prelude.{◌≡◌};
     ghost use Rattle.judging.specs.Requests.{column_of, columns_of, first_fault, fault_of, value_of};
 
-    /// What a column holds.
-    pub fn value(&self, column: usize) -> Value<'a>
+    // What a column holds.
+    pub(crate) fn value(&self, column: usize) -> Value<'a>
         ensures { value_of result ≡ column_of (columns_of self.now) column }
     {
         match column {
