@@ -1,10 +1,10 @@
 -- What the writer needs: a copy that is complete is the run of stores that the contracts speak of, and an item that the state machine takes
 -- has a record.
-use mathlib.Core.Path.{◌≡◌, refl, sym}
-use mathlib.Core.List.{List}
-use Prim.Native.Nat.{ℕ, ◌+◌, ◌≤◌}
+use mathlib.Core.Path.{◌≡◌, refl, sym, ◌∙◌, ap}
 use native.Mathlib.Nat.{le_antisymm}
-use lib.ListN.{length}
+use mathlib.Core.List.{List, [], ◌∷◌, append-nil, append_assoc}
+use Prim.Native.Nat.{ℕ, ◌+◌, ◌≤◌}
+use lib.ListN.{length, set, take, drop, drop_of_length-le}
 use mathlib.Core.Bool.{Bool, true, false, ◌||◌}
 use native.Mathlib.Omega.{arith}
 use lib.Dec.{ltb, leb, eqb}
@@ -15,12 +15,24 @@ use Rattle.stored.specs.Machinery.Placing.{HasKind}
 use Rattle.stored.specs.declared.items.Item.{Item}
 use Rattle.stored.specs.declared.items.Item.TheVariants as I
 use Rattle.stored.specs.declared.machine.State.{State}
-use lib.Seq.{sets, sets-eq, paste, take-length}
+use lib.Seq.{sets, sets-eq, paste, take-length, drop-drop}
+use borrow.Rule.Slice.PartMut.{put_mid}
 
 pub pasted : (buffer : List ℕ) (at : ℕ) (bytes : List ℕ) (i : ℕ)
     → at + length bytes ≤ length buffer → i ≤ length bytes → length bytes ≤ i → paste buffer at bytes i ≡ sets buffer at bytes
 pasted buffer at bytes i room below above =
     rw (le_antisymm below above, take-length bytes) (sym (sets-eq bytes buffer at room))
+
+-- a part of the buffer that holds these bytes now, with what is before and behind it, is the buffer with them set at the part's place
+pub laid : (buffer : List ℕ) (at : ℕ) (bytes : List ℕ) → at + length bytes ≤ length buffer
+    → put_mid at (length bytes) buffer bytes ≡ sets buffer at bytes
+laid buffer at bytes room = rw (drop-drop (length bytes) at buffer) (sym (sets-eq bytes buffer at room ∙ append_assoc (take at buffer) bytes (drop (at + length bytes) buffer)))
+
+-- a kind byte set first, and bytes behind it up to the end
+pub behind_kind : (room bytes : List ℕ) (kind size : ℕ) → length room ≡ length bytes + 1 → size ≡ length bytes
+    → put_mid 1 size (set room 0 kind) bytes ≡ kind ∷ bytes
+behind_kind [] bytes kind size long same = absurd (omega arith)
+behind_kind (x ∷ room) bytes kind size long same = rw (drop_of_length-le room {i = size} (omega arith), append-nil)
 
 either_true : (b : Bool) → (b || true) ≡ true
 either_true true = refl

@@ -1,6 +1,6 @@
 // What a record says: effects, columns, operators and keys by name, and the item that a record holds.
 ghost use Rattle.std.specs.Prelude.{◌≡◌};
-ghost use Rattle.stored.specs.Items.{effect_code, column_code, column_place, column_negated, key_code, key_of, key_sort};
+ghost use Rattle.stored.specs.Items.{column_place, column_negated, key_code, key_of, key_sort};
 
 #[derive(Clone, Copy, Debug, PartialEq, Eq)]
 pub enum Effect {
@@ -66,27 +66,37 @@ pub enum Item {
     End,
 }
 
-// The code of an effect.
-pub(crate) fn effect_code(effect: Effect) -> u8
-    ensures { result ≡ effect_code effect }
-{
-    match effect {
-        Effect::Deny => 0,
-        Effect::Allow => 1,
+/// The code of an effect.
+impl From<Effect> for u8 {
+    ghost use Rattle.std.specs.Prelude.{◌≡◌};
+    ghost use Rattle.stored.specs.Items.{effect_code};
+
+    ghost from_gives = { λ effect code. code ≡ effect_code effect };
+
+    fn from(effect: Effect) -> u8 {
+        match effect {
+            Effect::Deny => 0,
+            Effect::Allow => 1,
+        }
     }
 }
 
-// The code of a column.
-pub(crate) fn column_code(column: Column) -> u8
-    ensures { result ≡ column_code column }
-{
-    match column {
-        Column::Principal => 0x00,
-        Column::Action => 0x01,
-        Column::Resource => 0x02,
-        Column::NotPrincipal => 0x10,
-        Column::NotAction => 0x11,
-        Column::NotResource => 0x12,
+/// The code of a column.
+impl From<Column> for u8 {
+    ghost use Rattle.std.specs.Prelude.{◌≡◌};
+    ghost use Rattle.stored.specs.Items.{column_code};
+
+    ghost from_gives = { λ column code. code ≡ column_code column };
+
+    fn from(column: Column) -> u8 {
+        match column {
+            Column::Principal => 0x00,
+            Column::Action => 0x01,
+            Column::Resource => 0x02,
+            Column::NotPrincipal => 0x10,
+            Column::NotAction => 0x11,
+            Column::NotResource => 0x12,
+        }
     }
 }
 
@@ -95,12 +105,9 @@ pub fn column_place(column: Column) -> usize
     ensures { result ≡ column_place column }
 {
     match column {
-        Column::Principal => 0,
-        Column::Action => 1,
-        Column::Resource => 2,
-        Column::NotPrincipal => 0,
-        Column::NotAction => 1,
-        Column::NotResource => 2,
+        Column::Principal | Column::NotPrincipal => 0,
+        Column::Action | Column::NotAction => 1,
+        Column::Resource | Column::NotResource => 2,
     }
 }
 
@@ -108,14 +115,10 @@ pub fn column_place(column: Column) -> usize
 pub fn is_negated_column(column: Column) -> bool
     ensures { result ≡ column_negated column }
 {
-    match column {
-        Column::Principal => false,
-        Column::Action => false,
-        Column::Resource => false,
-        Column::NotPrincipal => true,
-        Column::NotAction => true,
-        Column::NotResource => true,
-    }
+    matches!(
+        column,
+        Column::NotPrincipal | Column::NotAction | Column::NotResource
+    )
 }
 
 // The code of a key.
@@ -150,10 +153,7 @@ pub(crate) fn key_sort(key: Key) -> Sort
     ensures { result ≡ key_sort key }
 {
     match key {
-        Key::SourceVpc => Sort::Text,
-        Key::Prefix => Sort::Text,
-        Key::SourceVpce => Sort::Text,
-        Key::Referer => Sort::Text,
+        Key::SourceVpc | Key::Prefix | Key::SourceVpce | Key::Referer => Sort::Text,
         Key::SourceIp => Sort::Address,
     }
 }

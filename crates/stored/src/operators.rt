@@ -1,7 +1,6 @@
 // The operators: one constant table, and nothing else in the code knows what an operator is.
 ghost use Rattle.std.specs.Prelude.{◌≡◌};
 ghost use Rattle.stored.specs.Operators.{row_of, operator_of};
-ghost use Rattle.stored.specs.Machinery.OperatorTable.{row_place};
 
 use crate::items::{Operator, Sort};
 
@@ -118,45 +117,21 @@ const OPERATORS: [OperatorRow; 12] = [
     },
 ];
 
-// Where an operator's row stands in the table.
-fn row_place(operator: Operator) -> usize
-    ensures { result ≡ row_place operator }
-{
-    match operator {
-        Operator::StringEquals => 0,
-        Operator::StringNotEquals => 1,
-        Operator::StringLike => 2,
-        Operator::StringNotLike => 3,
-        Operator::IpAddress => 4,
-        Operator::NotIpAddress => 5,
-        Operator::StringEqualsIfExists => 6,
-        Operator::StringNotEqualsIfExists => 7,
-        Operator::StringLikeIfExists => 8,
-        Operator::StringNotLikeIfExists => 9,
-        Operator::IpAddressIfExists => 10,
-        Operator::NotIpAddressIfExists => 11,
-    }
-}
-
-// The row of an operator.
+// The row of an operator. The rows stand in the order of the operators.
 pub fn operator_row(operator: Operator) -> OperatorRow
     ensures { result ≡ row_of operator }
 {
-    let i = row_place(operator);
-    OPERATORS[i]
+    OPERATORS[operator as usize]
 }
 
-// The operator with a code: the first row that has it.
+// The operator with a code: that of the first row that has it.
 pub(crate) fn operator_of(code: u8) -> Option<Operator>
     ensures { result ≡ operator_of code }
 {
-    let mut i: usize = 0;
-    while i < 12 {
-        let row = OPERATORS[i];
+    for row in &OPERATORS {
         if row.code == code {
             return Some(row.operator);
         }
-        i += 1;
     }
     None
 }

@@ -54,7 +54,7 @@ impl From<RecordFault> for Reason {
 pub fn byte_at(bytes: &[u8], i: usize) -> u8
     ensures { result ≡ get_or bytes.now i 0 }
 {
-    if i < bytes.len() { bytes[i] } else { 0 }
+    bytes.get(i).copied().unwrap_or(0)
 }
 
 // The kind that a byte stands for.
@@ -126,11 +126,7 @@ fn condition_of(operator: u8, key: u8) -> Option<Item>
 fn network_of(a: u8, b: u8, c: u8, d: u8, length: u8) -> Item
     ensures { result ≡ network_of a b c d length }
 {
-    let address = u32::from(a) * 0x1000000
-        + u32::from(b) * 0x10000
-        + u32::from(c) * 0x100
-        + u32::from(d);
-    Item::Network(address, length)
+    Item::Network(u32::from_be_bytes([a, b, c, d]), length)
 }
 
 // What the body of a kind says.

@@ -6,22 +6,16 @@ ghost use Rattle.stored.specs.Values.{byte_in_range, in_range, is_wildcard, has_
 fn is_byte_in_range(byte: u8) -> bool
     ensures { result ≡ byte_in_range byte }
 {
-    if byte < 0x21 {
-        return false;
-    }
-    byte <= 0x7E
+    matches!(byte, 0x21..=0x7E)
 }
 
-// Every byte lies in 21 to 7E hex.
+/// Every byte lies in 21 to 7E hex.
 pub fn is_in_range(bytes: &[u8]) -> bool
     ensures { result ≡ in_range bytes.now }
 {
     let mut every = true;
-    let mut i: usize = 0;
-    while i < bytes.len() {
-        let here = is_byte_in_range(bytes[i]);
-        every = every & here;
-        i += 1;
+    for &byte in bytes {
+        every &= is_byte_in_range(byte);
     }
     every
 }
@@ -32,13 +26,9 @@ pub(crate) fn has_variable(bytes: &[u8]) -> bool
 {
     let mut found = false;
     let mut dollar = false;
-    let mut i: usize = 0;
-    while i < bytes.len() {
-        let byte = bytes[i];
-        let here = dollar & (byte == b'{');
-        found = found | here;
+    for &byte in bytes {
+        found |= dollar & (byte == b'{');
         dollar = byte == b'$';
-        i += 1;
     }
     found
 }
@@ -46,10 +36,7 @@ pub(crate) fn has_variable(bytes: &[u8]) -> bool
 fn is_wildcard(byte: u8) -> bool
     ensures { result ≡ is_wildcard byte }
 {
-    if byte == b'*' {
-        return true;
-    }
-    byte == b'?'
+    matches!(byte, b'*' | b'?')
 }
 
 // `*` or `?` stands somewhere.
@@ -57,11 +44,8 @@ pub(crate) fn has_wildcard(bytes: &[u8]) -> bool
     ensures { result ≡ has_wildcard bytes.now }
 {
     let mut found = false;
-    let mut i: usize = 0;
-    while i < bytes.len() {
-        let here = is_wildcard(bytes[i]);
-        found = found | here;
-        i += 1;
+    for &byte in bytes {
+        found |= is_wildcard(byte);
     }
     found
 }
@@ -70,8 +54,5 @@ pub(crate) fn has_wildcard(bytes: &[u8]) -> bool
 pub(crate) fn is_star_alone(bytes: &[u8]) -> bool
     ensures { result ≡ is_star_alone bytes.now }
 {
-    if bytes.len() == 1 {
-        return bytes[0] == b'*';
-    }
-    false
+    matches!(bytes, [b'*'])
 }

@@ -1,15 +1,8 @@
 -- The invariant: `${` was found, or begins with the byte before the index, or stands in the bytes from the index on.
-use Prim.Native.Nat.{◌-◌, ◌≤◌}
-use mathlib.Core.Path.{◌≡◌}
-use mathlib.Core.Bool.{◌&&◌, ◌||◌}
-use lib.ListN.{length, get_or, drop}
-use lib.Dec.{eqb}
+use Rattle.std.proofs.Common.{◌≡◌, ◌&&◌, ◌||◌, eqb, get_or, drop}
 use Rattle.stored.specs.Values.{has_variable}
 use Rattle.stored.proofs.values.has_variable.Given as goal
 
-abbrev pub invariant-loop-i : goal.invariant-loop-i
-invariant-loop-i l =
-    (l.i ≤ length l.bytes) × ((l.found || ((l.dollar && eqb (get_or (drop l.i l.bytes) 0 0) 0x7B) || has_variable (drop l.i l.bytes))) ≡ has_variable l.bytes)
-
-abbrev pub decreases-loop-i : goal.decreases-loop-i
-decreases-loop-i l = length l.bytes - l.i
+abbrev pub invariant-loop-byte : goal.invariant-loop-byte
+invariant-loop-byte l =
+    (l.found || ((l.dollar && eqb (get_or (drop l.byte-index l.bytes) 0 0) 0x7B) || has_variable (drop l.byte-index l.bytes))) ≡ has_variable l.bytes

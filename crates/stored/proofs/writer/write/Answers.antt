@@ -4,8 +4,8 @@ use Rattle.stored.specs.Writing.{writing}
 use Rattle.stored.proofs.Writing.{has-kind}
 use Rattle.stored.proofs.writer.write.Goals as goal
 
-pub place-requires : goal.place-requires
-place-requires c = has-kind _ _ _ _ (sym c.in-Ok.ensures)
+pub invariant_of-place : goal.invariant_of-place
+invariant_of-place c = record { has_kind = has-kind _ _ _ _ (sym c.in-Ok.ensures) }
 
 pub returns-in-Ok-clause-answer : goal.returns-in-Ok-clause-answer
 unfolding writing
