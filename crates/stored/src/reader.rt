@@ -28,9 +28,8 @@ fn taken(state: State, table: &[u8], at: usize) -> Result<(State, usize), Reason
     ensures { as_step result ≡ taken_of state table.now at }
 {
     let record = record_at(table, at)?;
-    let start = record.start;
-    let end = start + record.size;
-    let next = take_turn(state, record.item, &table[start..end])?;
+    let end = record.start + record.size;
+    let next = take_turn(state, record.item, &table[record.start..end])?;
     Ok((next, end))
 }
 
@@ -42,7 +41,7 @@ fn step_at(state: State, table: &[u8], at: usize) -> Result<(State, usize), Reas
     taken(state, table, at)
 }
 
-// Reads any byte string as a table: the number of its statements, or the first refusal and its place.
+/// Reads any byte string as a table: the number of its statements, or the first refusal and its place.
 pub fn read(table: &[u8]) -> Result<u8, Refusal>
     ensures { as_read result ≡ reading table.now }
 {
@@ -54,15 +53,11 @@ pub fn read(table: &[u8]) -> Result<u8, Refusal>
     }
     let mut state = fresh();
     let mut at: usize = 0;
+    // stays: the next place is where a record ends, which no iterator over the records tells, and a refusal needs it
     while at < table.len() {
         match step_at(state, table, at) {
-            Ok((next, place)) => {
-                state = next;
-                at = place;
-            }
-            Err(reason) => {
-                return Err(Refusal { reason, place: at });
-            }
+            Ok(next) => (state, at) = next,
+            Err(reason) => return Err(Refusal { reason, place: at }),
         }
     }
     finish(state, at)

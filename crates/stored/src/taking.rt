@@ -1,8 +1,9 @@
 // What a whole record decides, once its kind is in turn (RULES 7.1: 4 for a column, 6, 7, 8), and the state behind it.
-ghost use Rattle.std.specs.Prelude.{◌≡◌};
+ghost use Rattle.std.specs.Prelude.{◌≡◌, eqb};
+ghost use Rattle.stored.specs.Items.{column_place};
 ghost use Rattle.stored.specs.Machine.{as_fault, as_turn, column_phase, place_due, counted_state, opened_state, listed_state, filled_state, ended_state, sound_in, value_fault, start_turn, column_turn, condition_turn, network_turn, value_turn, turn_of};
 
-use crate::items::{Column, Item, Key, Operator, Sort, column_place, key_sort};
+use crate::items::{Column, Item, Key, Operator, Sort, key_sort};
 use crate::limits::{MOST_CONDITIONS, MOST_LENGTH, MOST_STATEMENTS, MOST_VALUES};
 use crate::machine::{Phase, State, fresh};
 use crate::networks::is_sound_network;
@@ -21,15 +22,14 @@ fn column_phase(column: Column) -> Phase
     }
 }
 
-// The column that comes next in a statement: 0 principal, 1 action, 2 resource, 3 none.
-fn place_due(phase: Phase) -> usize
-    ensures { result ≡ place_due phase }
+// A column comes next in a statement: the principals behind its beginning, then the actions, then the resources.
+fn is_due(phase: Phase, column: Column) -> bool
+    ensures { result ≡ eqb (place_due phase) (column_place column) }
 {
-    match phase {
-        Phase::Opened => 0,
-        Phase::Principals => 1,
-        Phase::Actions => 2,
-        _ => 3,
+    match column {
+        Column::Principal | Column::NotPrincipal => phase == Phase::Opened,
+        Column::Action | Column::NotAction => phase == Phase::Principals,
+        Column::Resource | Column::NotResource => phase == Phase::Actions,
     }
 }
 
@@ -125,7 +125,7 @@ fn start_turn(rows: u8) -> Result<State, Reason>
 fn column_turn(state: State, column: Column) -> Result<State, Reason>
     ensures { as_turn result ≡ column_turn state column }
 {
-    if place_due(state.phase) != column_place(column) {
+    if !is_due(state.phase, column) {
         return Err(Reason::OutOfTurn);
     }
     Ok(listed(state, column_phase(column), state.conditions, Sort::Text))
