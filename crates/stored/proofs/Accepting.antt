@@ -1,13 +1,6 @@
 -- A table that reads: the state machine takes its entries one after the other to the end, so that the rows are as many as announced,
 -- at most 32.
-use Prim.Native.Nat.{ℕ, zero, suc, ◌+◌, ◌-◌, ◌≤◌, ◌<◌}
-use mathlib.Core.Path.{◌≡◌, refl, sym, ◌∙◌, ap}
-use mathlib.Core.Bool.{Bool, true, false}
-use mathlib.Core.List.{List, [], ◌∷◌}
-use native.Mathlib.Omega.{arith}
-use lib.Dec.{ltb}
-use lib.ListN.{length, take, drop}
-use borrow.Author.Tests.{ltb-true, ltb-false, eqb-true}
+use Rattle.std.proofs.Common.{ℕ, zero, suc, ◌+◌, ◌-◌, ◌≤◌, ◌<◌, ◌≡◌, refl, sym, ◌∙◌, ap, Bool, true, false, List, [], ◌∷◌, arith, ltb, length, take, drop, ltb-true, ltb-false, eqb-true}
 use Rattle.stored.specs.Choice.{pick}
 use Rattle.stored.specs.Machine.{Turn as T, fresh_state, is_ended, takes_kind, column_phase, counted_state, opened_state, listed_state, filled_state, ended_state, kind_of_item}
 use Rattle.stored.specs.Reading.{Step as S, ReadAnswer as A, Step, finish_of, step_at, after_step, read_from, reading}

@@ -1,8 +1,5 @@
 -- What follows from the outcome of a choice by a test.
-use mathlib.Core.Path.{◌≡◌, refl}
-use mathlib.Core.Bool.{Bool, true, false, ◌&&◌}
-use native.Mathlib.Omega.{arith}
-use Prim.Native.Nat.{ℕ}
+use Rattle.std.proofs.Common.{◌≡◌, refl, Bool, true, false, ◌&&◌, arith, ℕ}
 use Rattle.stored.specs.Choice.{pick}
 
 -- anything follows from 0 being 1

@@ -1,13 +1,5 @@
 -- What the bytes of a record say: which kind a byte is, which item a body holds, and that the item's record is these bytes again.
-use Rattle.std.specs.Prelude.{Option, Some, None}
-use Prim.Native.Nat.{ℕ, zero, suc, ◌+◌, ◌-◌, ◌/◌, ◌%◌, ◌≤◌, ◌<◌}
-use mathlib.Core.Path.{◌≡◌, refl, sym, ap, subst}
-use mathlib.Core.Bool.{◌&&◌}
-use mathlib.Core.List.{List, [], ◌∷◌}
-use native.Mathlib.Omega.{arith}
-use lib.Dec.{eqb, leb}
-use lib.ListN.{length, get_or}
-use borrow.Author.Tests.{eqb-true, leb-true}
+use Rattle.std.proofs.Common.{Option, Some, None, ℕ, zero, suc, ◌+◌, ◌-◌, ◌/◌, ◌%◌, ◌≤◌, ◌<◌, ◌≡◌, refl, sym, ap, subst, ◌&&◌, List, [], ◌∷◌, arith, eqb, leb, length, get_or, eqb-true, leb-true}
 use Rattle.stored.specs.Items.{key_code, key_of}
 use Rattle.stored.specs.Operators.{code_of, operator_of}
 use Rattle.stored.specs.Records.{kind_of, size_of, decode_of, statement_of, column_of, condition_of_found, address_of}

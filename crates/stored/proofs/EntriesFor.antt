@@ -1,10 +1,6 @@
 -- Nothing of a table is lost in its statements: the entries of a table that reads are those that its statements stand for, so that the
 -- statements decide the entries.
-use Prim.Native.Nat.{ℕ, ◌+◌}
-use mathlib.Core.Path.{◌≡◌, refl, sym, ◌∙◌, ap}
-use mathlib.Core.Bool.{true, false}
-use mathlib.Core.List.{List, [], ◌∷◌}
-use lib.ListN.{length}
+use Rattle.std.proofs.Common.{ℕ, ◌+◌, ◌≡◌, refl, sym, ◌∙◌, ap, true, false, List, [], ◌∷◌, length}
 use Rattle.stored.specs.Operators.{row_of}
 use Rattle.stored.specs.Machine.{is_ended, takes_kind, column_phase, counted_state, opened_state, listed_state, filled_state, ended_state, kind_of_item}
 use Rattle.stored.specs.Reading.{ReadAnswer as A, reading}

@@ -1,10 +1,7 @@
 -- The walk over the records of a byte string does not know what stands before them: from a place on it is the walk over the bytes from
 -- there on, so that an iterator over the records need only keep these.
-use Rattle.std.proofs.Common.{◌≡◌, ℕ, zero, suc, ◌+◌, ◌-◌, ◌≤◌, ◌<◌, List, [], ◌∷◌, Bool, true, false, ltb, length, get_or, take, drop, refl, sym, ap, ◌∙◌, arith, length-drop}
+use Rattle.std.proofs.Common.{◌≡◌, ℕ, zero, suc, ◌+◌, ◌-◌, ◌≤◌, ◌<◌, List, [], ◌∷◌, Bool, true, false, ltb, length, get_or, take, drop, refl, sym, ap, ◌∙◌, arith, length-drop, drop-drop, lt-ltb, le-ltb, ltb-true, ltb-false, Option, Some, None, Err}
 use Rattle.std.proofs.lemmas.List.{get_or-drop}
-use lib.Seq.{drop-drop}
-use borrow.Author.Tests.{lt-ltb, le-ltb, ltb-true, ltb-false}
-use Rattle.std.specs.Prelude.{Option, Some, None, Err}
 use Rattle.stored.specs.Choice.{pick}
 use Rattle.stored.specs.Records.{Record, Record as R, as_record, kind_of, size_of, decode_of, known, record_behind, record_at}
 use Rattle.stored.specs.Entries.{Entry, entry_of, bytes_of, after_record, walk, entries_from, entries_of}

@@ -1,13 +1,9 @@
 -- A number has at least n zero bits at its low end exactly when its n lowest bits are zero.
-use mathlib.Core.Path.{◌≡◌, refl, sym, ap, ◌∙◌}
-use Prim.Native.Nat.{ℕ, zero, suc, ◌+◌, ◌*◌, ◌/◌, ◌%◌, ◌^◌, ◌≤◌}
-use native.Mathlib.Nat.{le_of_suc-le-suc, not-suc-le-zero, mod-one}
-use native.Mathlib.Numerals.{add-one}
-use native.Mathlib.Omega.{arith}
+use Rattle.std.proofs.Common.{◌≡◌, refl, sym, ap, ◌∙◌, ℕ, zero, suc, ◌+◌, ◌*◌, ◌/◌, ◌%◌, ◌^◌, ◌≤◌, le_of_suc-le-suc, not-suc-le-zero, add-one, arith, leb, eqb, eq-eqb, ne_eqb}
+use Rattle.std.proofs.Math.Nat.{mod-one}
 use lib.Count.{count_trailing_zeros, under}
-use lib.Dec.{leb, eqb, leb-zero, leb-suc-zero, leb-suc-suc, eqb-suc-zero}
+use lib.Dec.{leb-zero, leb-suc-zero, leb-suc-suc, eqb-suc-zero}
 use lib.Pow.{mod-pow-add}
-use borrow.Author.Tests.{eq-eqb, ne_eqb}
 
 -- the lowest n + 1 bits are the lowest one and the n above it
 lowest : (a n : ℕ) → a % 2 ^ suc n ≡ (a / 2 % 2 ^ n) * 2 + a % 2

@@ -1,14 +1,7 @@
 -- Which numbers a refusal can have, and at which place: what the kind alone decides is 3, 4 or 5, what the whole record decides is 4, 6, 7
 -- or 8, and a reader that stops stops at a record or at the length.
-use Prim.Native.Nat.{ℕ, zero, suc, ◌+◌, ◌≤◌, ◌<◌}
-use mathlib.Core.Path.{◌≡◌, refl}
-use mathlib.Core.Bool.{Bool, true, false, not, ◌&&◌, ◌||◌}
-use mathlib.Core.List.{List}
-use mathlib.Core.Logic.{◌⊎◌, inl, inr}
-use native.Mathlib.Omega.{arith}
-use lib.Dec.{eqb, leb, ltb}
-use lib.ListN.{length, get_or, take, drop}
-use borrow.Author.Tests.{ltb-true, ltb-false, eqb-false}
+use Rattle.std.proofs.Common.{ℕ, zero, suc, ◌+◌, ◌≤◌, ◌<◌, ◌≡◌, refl, Bool, true, false, not, ◌&&◌, ◌||◌, List, ◌⊎◌, inl, inr, arith, eqb, leb, ltb, length, get_or, take, drop, ltb-true, ltb-false}
+use Rattle.std.proofs.lemmas.Bool.{eqb-false}
 use Rattle.stored.specs.Choice.{pick}
 use Rattle.stored.specs.Items.{column_place, key_sort}
 use Rattle.stored.specs.Operators.{row_of}

@@ -1,15 +1,9 @@
 -- The rows of the operator table as a list, and what a search in it and a place in it give.
-use Rattle.std.specs.Prelude.{Option, Some, None}
-use mathlib.Core.Path.{◌≡◌, refl, sym}
-use mathlib.Core.List.{List, [], ◌∷◌}
-use Prim.Native.Nat.{ℕ, ◌+◌, ◌<◌}
-use lib.Dec.{eqb, lit<}
-use lib.ListN.{get_or, drop}
+use Rattle.std.proofs.Common.{Option, Some, None, ◌≡◌, refl, sym, List, [], ◌∷◌, ℕ, ◌+◌, ◌<◌, eqb, lit<, get_or, drop, eq-eqb, ne_eqb}
 use Rattle.stored.specs.Choice.{pick}
 use Rattle.stored.specs.Operators.{row_of, operator_of}
 use Rattle.stored.specs.Machinery.OperatorTable.{row_place}
 use Rattle.stored.proofs.Lists.{left}
-use borrow.Author.Tests.{eq-eqb, ne_eqb}
 use Rattle.stored.specs.declared.items.Operator.{Operator}
 use Rattle.stored.specs.declared.items.Operator.TheVariants as O
 use Rattle.stored.specs.declared.operators.OperatorRow.{OperatorRow}

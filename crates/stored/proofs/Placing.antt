@@ -1,15 +1,8 @@
 -- The writer's buffer: items that are added one after the other leave their records one behind the other, and every other byte as it
 -- was.
-use Prim.Native.Nat.{ℕ, ◌+◌, ◌-◌, ◌≤◌}
-use mathlib.Core.Path.{◌≡◌, refl, sym, ◌∙◌, ap}
-use mathlib.Core.Bool.{Bool, true, false}
-use mathlib.Core.List.{List, [], ◌∷◌, ◌++◌, append_assoc, append-nil}
-use native.Mathlib.Omega.{arith}
-use native.Mathlib.Nat.{add-zero}
-use lib.Dec.{ltb}
-use lib.ListN.{length, take, drop, length-append, take-append-drop}
-use lib.Seq.{sets, sets-eq, length-sets, length-take-le, take_at, drop_at, drop-drop}
-use borrow.Author.Tests.{ltb-false, le-ltb}
+use Rattle.std.proofs.Common.{ℕ, ◌+◌, ◌-◌, ◌≤◌, ◌≡◌, refl, sym, ◌∙◌, ap, Bool, true, false, List, [], ◌∷◌, ◌++◌, append_assoc, append-nil, arith, add-zero, ltb, length, take, drop, length-append, take-append-drop, length-take-le, take_at, drop_at, drop-drop, ltb-false, le-ltb}
+use Rattle.std.proofs.lemmas.List.Edits.{sets, sets-eq}
+use Rattle.std.proofs.Math.Seq.{length-sets}
 use Rattle.stored.specs.Choice.{pick}
 use Rattle.stored.specs.Machine.{Turn as T, Turn, admit_item}
 use Rattle.stored.specs.Writing.{WriteAnswer as W, record_of, placing, writing}

@@ -1,13 +1,7 @@
 -- What the stored form promises, in statements that can be read without their proofs. `reading` is what the reader answers, `writing`
 -- what the writer answers, `Writes` says that a writer takes entries one after the other, `encode` lays their records one behind the
 -- other, `entries_of` walks the records of a byte string, and `rows_of` has the statements that they make.
-use Prim.Native.Nat.{ℕ, ◌≤◌, ◌<◌}
-use mathlib.Core.Path.{◌≡◌, sym, ◌∙◌, ap}
-use mathlib.Core.Bool.{true}
-use mathlib.Core.List.{List, [], ◌∷◌, ◌++◌}
-use mathlib.Core.Logic.{◌⊎◌, ◌↔◌}
-use lib.Dec.{eqb}
-use lib.ListN.{length, take, drop}
+use Rattle.std.proofs.Common.{ℕ, ◌≤◌, ◌<◌, ◌≡◌, sym, ◌∙◌, ap, true, List, [], ◌∷◌, ◌++◌, ◌⊎◌, ◌↔◌, eqb, length, take, drop}
 use Rattle.stored.specs.Choice.{pick, In}
 use Rattle.stored.specs.Machine.{is_ended, due_of}
 use Rattle.stored.specs.Reading.{ReadAnswer as A, reading}

@@ -1,14 +1,8 @@
 -- The round trip of whole tables: a table that reads is the records of its entries, one behind the other; a fresh writer given them
 -- writes just these bytes; and what a fresh writer has written, the end last, reads back as the same entries.
-use Prim.Native.Nat.{ℕ, zero, suc, ◌+◌, ◌-◌, ◌≤◌, ◌<◌}
-use mathlib.Core.Path.{◌≡◌, refl, sym, ◌∙◌, ap}
-use mathlib.Core.Bool.{Bool, true, false}
-use mathlib.Core.List.{List, [], ◌∷◌, ◌++◌, append_assoc, append-nil}
-use native.Mathlib.Omega.{arith}
-use lib.Dec.{ltb}
-use lib.ListN.{length, take, drop, length-append, take-append-drop, drop_of_length-le}
-use lib.Seq.{sets, take_at, drop_at, drop-drop, take-append_seam, drop-append_seam}
-use borrow.Author.Tests.{ltb-false}
+use Rattle.std.proofs.Common.{ℕ, zero, suc, ◌+◌, ◌-◌, ◌≤◌, ◌<◌, ◌≡◌, refl, sym, ◌∙◌, ap, Bool, true, false, List, [], ◌∷◌, ◌++◌, append_assoc, append-nil, arith, ltb, length, take, drop, length-append, take-append-drop, drop_of_length-le, take_at, drop_at, drop-drop, ltb-false}
+use Rattle.std.proofs.lemmas.List.Edits.{sets}
+use Rattle.std.proofs.Math.Seq.{take-append_seam, drop-append_seam}
 use Rattle.stored.specs.Choice.{pick}
 use Rattle.stored.specs.Records.{Record as R, record_at}
 use Rattle.stored.specs.Machine.{Turn as T, fresh_state, is_ended, admit_item}

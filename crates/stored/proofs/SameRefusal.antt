@@ -1,15 +1,7 @@
 -- The writer refuses as the reader would: where the records of entries that a fresh writer took are followed by one record more, the reader
 -- comes to that record in the writer's state, and both answer by the same turn of the state machine.
-use Prim.Native.Nat.{ℕ, ◌+◌, ◌-◌, ◌≤◌, ◌<◌}
-use mathlib.Core.Path.{◌≡◌, refl, sym, ◌∙◌, ap}
-use mathlib.Core.Bool.{Bool, true, false, ◌||◌}
-use mathlib.Core.List.{List, [], ◌++◌}
+use Rattle.std.proofs.Common.{ℕ, ◌+◌, ◌-◌, ◌≤◌, ◌<◌, ◌≡◌, refl, sym, ◌∙◌, ap, Bool, true, false, ◌||◌, List, [], ◌++◌, ◌⊎◌, inl, inr, ◌↔◌, arith, eqb, leb, ltb, length, take, drop, length-append, ltb-true, lt-ltb, eq-eqb, ne_eqb}
 use mathlib.Core.Logic.Iff
-use mathlib.Core.Logic.{◌⊎◌, inl, inr, ◌↔◌}
-use native.Mathlib.Omega.{arith}
-use lib.Dec.{eqb, leb, ltb}
-use lib.ListN.{length, take, drop, length-append}
-use borrow.Author.Tests.{ltb-true, lt-ltb, eq-eqb, ne_eqb}
 use Rattle.stored.specs.Choice.{pick}
 use Rattle.stored.specs.Records.{Record as R, record_at}
 use Rattle.stored.specs.Machine.{Turn as T, Turn, fresh_state, due_of, admit_item}

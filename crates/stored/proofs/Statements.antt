@@ -1,12 +1,6 @@
 -- The statements of a table that reads are well formed: from every state on, what is still to come of the statement at hand and what was
 -- taken of it together keep the order of the elements, the bounds 4 and 64, and no list without a value.
-use Prim.Native.Nat.{ℕ, ◌+◌, ◌≤◌, ◌<◌}
-use mathlib.Core.Path.{◌≡◌, refl, sym, ◌∙◌, ap, subst}
-use mathlib.Core.Bool.{Bool, true, false, ◌&&◌}
-use mathlib.Core.List.{List, [], ◌∷◌}
-use mathlib.Core.Logic.{⊎_elim}
-use native.Mathlib.Omega.{arith}
-use lib.ListN.{length}
+use Rattle.std.proofs.Common.{ℕ, ◌+◌, ◌≤◌, ◌<◌, ◌≡◌, refl, sym, ◌∙◌, ap, subst, Bool, true, false, ◌&&◌, List, [], ◌∷◌, ⊎_elim, arith, length}
 use Rattle.stored.specs.Choice.{In}
 use Rattle.stored.specs.Items.{column_place}
 use Rattle.stored.specs.Operators.{row_of}

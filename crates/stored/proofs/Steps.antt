@@ -1,12 +1,5 @@
 -- The reader's steps: a step goes on to a later place inside the table, and more fuel than the bytes left changes nothing.
-use Prim.Native.Nat.{ℕ, zero, suc, ◌+◌, ◌-◌, ◌≤◌, ◌<◌}
-use mathlib.Core.Path.{◌≡◌, refl, sym, ◌∙◌, ap}
-use mathlib.Core.Bool.{Bool, true, false}
-use mathlib.Core.List.{List}
-use native.Mathlib.Omega.{arith}
-use lib.Dec.{eqb, ltb}
-use lib.ListN.{length, get_or, take, drop}
-use borrow.Author.Tests.{lt-ltb, le-ltb, eqb-true}
+use Rattle.std.proofs.Common.{ℕ, zero, suc, ◌+◌, ◌-◌, ◌≤◌, ◌<◌, ◌≡◌, refl, sym, ◌∙◌, ap, Bool, true, false, List, arith, eqb, ltb, length, get_or, take, drop, lt-ltb, le-ltb, eqb-true}
 use Rattle.stored.specs.Choice.{pick}
 use Rattle.stored.specs.Records.{Record as R, Record, kind_of, record_at}
 use Rattle.stored.specs.Machine.{Turn as T, Turn, fresh_state, due_of, turn_of, admit_item}

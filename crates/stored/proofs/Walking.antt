@@ -1,15 +1,6 @@
 -- The walk over the records of a byte string: a record lies inside it, the walk goes on behind a record, and a cut or strange record
 -- ends it.
-use Rattle.std.specs.Prelude.{Option, Some, None}
-use Prim.Native.Nat.{ℕ, zero, suc, ◌+◌, ◌-◌, ◌≤◌, ◌<◌}
-use mathlib.Core.Path.{◌≡◌, refl, sym, ◌∙◌, ap}
-use mathlib.Core.Bool.{Bool, true, false}
-use mathlib.Core.List.{List, [], ◌∷◌}
-use native.Mathlib.Omega.{arith}
-use lib.Dec.{ltb}
-use lib.ListN.{length, get_or, take, drop, length-drop}
-use lib.Seq.{length-take-le}
-use borrow.Author.Tests.{ltb-true, ltb-false, le-ltb}
+use Rattle.std.proofs.Common.{Option, Some, None, ℕ, zero, suc, ◌+◌, ◌-◌, ◌≤◌, ◌<◌, ◌≡◌, refl, sym, ◌∙◌, ap, Bool, true, false, List, [], ◌∷◌, arith, ltb, length, get_or, take, drop, length-drop, length-take-le, ltb-true, ltb-false, le-ltb}
 use Rattle.stored.specs.Choice.{pick}
 use Rattle.stored.specs.Records.{Record as R, Record, kind_of, size_of, decode_of, known, record_behind, record_at}
 use Rattle.stored.specs.Entries.{entry_of, after_record, walk, entries_from}

@@ -1,21 +1,14 @@
 -- What the writer needs: a copy that is complete is the run of stores that the contracts speak of, and an item that the state machine takes
 -- has a record.
-use mathlib.Core.Path.{◌≡◌, refl, sym, ◌∙◌, ap}
-use native.Mathlib.Nat.{le_antisymm}
-use mathlib.Core.List.{List, [], ◌∷◌, append-nil, append_assoc}
-use Prim.Native.Nat.{ℕ, ◌+◌, ◌≤◌}
-use lib.ListN.{length, set, take, drop, drop_of_length-le}
-use mathlib.Core.Bool.{Bool, true, false, ◌||◌}
-use native.Mathlib.Omega.{arith}
-use lib.Dec.{ltb, leb, eqb}
-use borrow.Author.Tests.{ltb-false}
+use Rattle.std.proofs.Common.{◌≡◌, refl, sym, ◌∙◌, ap, le_antisymm, List, [], ◌∷◌, append-nil, append_assoc, ℕ, ◌+◌, ◌≤◌, length, set, take, drop, drop_of_length-le, Bool, true, false, ◌||◌, arith, ltb, leb, eqb, ltb-false, drop-drop}
+use Rattle.std.proofs.lemmas.List.Edits.{sets, sets-eq}
+use Rattle.std.proofs.Math.Seq.{paste, take-length}
 use Rattle.stored.specs.Choice.{pick}
 use Rattle.stored.specs.Machine.{Turn as T, due_of, kind_of_item, admit_item}
 use Rattle.stored.specs.Machinery.Placing.{HasKind}
 use Rattle.stored.specs.declared.items.Item.{Item}
 use Rattle.stored.specs.declared.items.Item.TheVariants as I
 use Rattle.stored.specs.declared.machine.State.{State}
-use lib.Seq.{sets, sets-eq, paste, take-length, drop-drop}
 use borrow.Rule.Slice.PartMut.{put_mid}
 
 pub pasted : (buffer : List ℕ) (at : ℕ) (bytes : List ℕ) (i : ℕ)

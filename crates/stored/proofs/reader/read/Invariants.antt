@@ -1,8 +1,6 @@
 -- `stored::reader::read` meets its contract: the loop keeps what is left to read: the records from the place at hand give the answer for the whole table. Each record moves
 -- the place on.
-use mathlib.Core.Path.{◌≡◌}
-use Prim.Native.Nat.{◌≤◌, ◌-◌}
-use lib.ListN.{length}
+use Rattle.std.proofs.Common.{◌≡◌, ◌≤◌, ◌-◌, length}
 use Rattle.stored.specs.Machine.{fresh_state}
 use Rattle.stored.specs.Reading.{read_from}
 use Rattle.stored.proofs.reader.read.Given as goal

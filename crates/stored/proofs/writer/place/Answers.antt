@@ -1,6 +1,6 @@
 -- The code's tests, which cannot wrap, are the definition's two; the record is laid down in a part of the buffer.
 use Rattle.std.proofs.Common.{arith}
-use native.Mathlib.Nat.{add-sub_cancel_left}
+use Rattle.std.proofs.Math.Nat.{add-sub_cancel_left}
 use Rattle.stored.proofs.Writing.{laid}
 use Rattle.stored.proofs.writer.place.Goals as goal
 

@@ -1,7 +1,7 @@
 -- A record that is found is the first entry of those left, and the others are those of the bytes behind it.
 use Rattle.std.proofs.Common.{arith, rules, sym, ap, length, ◌+◌}
 use Rattle.std.proofs.lemmas.List.{take_rest}
-use native.Mathlib.Nat.{add-sub_cancel_left}
+use Rattle.std.proofs.Math.Nat.{add-sub_cancel_left}
 use Rattle.stored.specs.EntriesLeft.{entries_left}
 use Rattle.stored.proofs.EntriesLeft.{entry-first, none-first}
 use Rattle.stored.proofs.Walking.{inside, body-length, record-has-kind}
