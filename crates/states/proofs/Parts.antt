@@ -4,7 +4,9 @@ use mathlib.Core.Path.{◌≡◌, refl, sym, ap, ◌∙◌}
 use mathlib.Core.List.{List, [], ◌∷◌}
 use native.Mathlib.Omega.{arith}
 use lib.ListN.{length, take, drop, set}
-use lib.Seq.{sets, take-take, take-nil, take-set-le, drop-set-lt}
+use borrow.Rule.Slice.PartMut.{put_mid}
+use lib.Seq.{sets, sets-eq, take-length, take-take, take-nil, take-set-le, drop-set-lt}
+use Rattle.std.proofs.lemmas.Slice.{put_mid-paste}
 
 -- a part that lies where two lists agree
 drop-taken : (at k : ℕ) (l : List ℕ) → drop at (take (at + k) l) ≡ take k (drop at l)
@@ -31,3 +33,7 @@ sets-front l (v ∷ vs) at n low = sets-front (set l at v) vs (suc at) n (omega 
 pub sets_behind : (l vs : List ℕ) (at n : ℕ) → at + length vs ≤ n → drop n (sets l at vs) ≡ drop n l
 sets_behind l [] at n high = refl
 sets_behind l (v ∷ vs) at n high = sets_behind (set l at v) vs (suc at) n (omega arith) ∙ drop-set-lt n l at v (omega arith)
+
+-- a part laid over others is a run of stores
+pub put_mid-sets : (l vs : List ℕ) (at k : ℕ) → k ≡ length vs → at + length vs ≤ length l → put_mid at k l vs ≡ sets l at vs
+put_mid-sets l vs at k long room = rw (put_mid-paste at k l vs vs k refl refl long, long, take-length vs) (sym (sets-eq vs l at room))
