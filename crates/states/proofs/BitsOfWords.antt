@@ -154,8 +154,3 @@ left-zeros word passed k from low =
 pub left-few : (word passed : ℕ) → word < 2 ^ 64 → passed ≤ 64 → 0 < word / 2 ^ passed → passed + count_trailing_zeros 64 (word / 2 ^ passed) < 64
 left-few word passed fits low some =
     let few = trailing-few 64 (64 - passed) (word / 2 ^ passed) some (left-fits word passed fits low) in omega arith
-
--- it and its lowest bit are passed
-pub left-next : (word passed skipped : ℕ) → word / 2 ^ passed / 2 ^ skipped / 2 ≡ word / 2 ^ (passed + skipped + 1)
-left-next word passed skipped =
-    ap (λ (n : ℕ). n / 2) (shr-shr word passed skipped) ∙ shr-shr word (passed + skipped) 1

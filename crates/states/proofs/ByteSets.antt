@@ -15,9 +15,11 @@ use borrow.Author.Tests.{eqb-true, eqb-false, ne_eqb}
 use Rattle.matching.specs.Machinery.Rows.{word_bit, row_bit}
 use Rattle.matching.proofs.MarkedRows.{row-at}
 use Rattle.states.specs.Machinery.Rows.{IsByte}
-use Rattle.states.specs.Machinery.Bytes.{Adds, NextBit, NextByte, ToTry}
+use Rattle.std.specs.Prelude.{None, Some}
+use Rattle.matching.proofs.Rows.{row_zero}
+use Rattle.states.specs.Machinery.Bytes.{Adds, SetOf, Lowest, NextBit, NextByte, ToTry}
 use Rattle.states.proofs.Below.{below-or-from}
-use Rattle.states.proofs.BitsOfWords.{bit-or, bit-power, bit-left, trailing-here, left-none, left-zeros, left-few}
+use Rattle.states.proofs.BitsOfWords.{bit-or, bit-power, bit-left, trailing-here, left-zeros, left-few}
 use Rattle.states.proofs.CodeBytes.{eqb_same}
 
 -- a set of two words, bit by bit
@@ -72,130 +74,147 @@ adds-byte row b two low x few = by (eqb (x / 64) (b / 64)) refl
 pub adds_none : (row : List ℕ) (f : ℕ → Bool) → ((x : ℕ) → x < 128 → f x ≡ false) → Adds row f row
 adds_none row f none x few = sym (or-false (row_bit row x)) ∙ ap (λ (t : Bool). row_bit row x || t) (sym (none x few))
 
--- the same bytes, said otherwise
-pub adds-as : (row more : List ℕ) (f g : ℕ → Bool) → Adds row f more → ((x : ℕ) → x < 128 → f x ≡ g x) → Adds row g more
-adds-as row more f g adds said x few = adds x few ∙ ap (λ (t : Bool). row_bit row x || t) (said x few)
+-- sets built from the empty one: no byte, the bytes that were added, and those of which something else holds
 
--- some bytes, then others
-pub adds-both : (row more all : List ℕ) (f g h : ℕ → Bool) → Adds row f more → Adds more g all
-    → ((x : ℕ) → ((f x ≡ false) × (g x ≡ h x)) ⊎ ((g x ≡ false) × (f x ≡ h x))) → Adds row h all
-adds-both row more all f g h one two parts x few =
-    two x few ∙ ap (λ (t : Bool). t || g x) (one x few) ∙ by (parts x)
+abbrev pub empty : List ℕ
+empty = 0 ∷ 0 ∷ []
+
+pub set-none : (f : ℕ → Bool) → ((x : ℕ) → x < 128 → f x ≡ false) → SetOf f empty
+set-none f none x few = row_zero 2 x ∙ sym (none x few)
+
+pub set-added : (f g : ℕ → Bool) (row : List ℕ) → Adds empty f row → ((x : ℕ) → x < 128 → f x ≡ g x) → SetOf g row
+set-added f g row adds said x few = adds x few ∙ ap (λ (t : Bool). t || f x) (row_zero 2 x) ∙ said x few
+
+pub set-both : (f g h : ℕ → Bool) (row all : List ℕ) → Adds empty f row → Adds row g all
+    → ((x : ℕ) → ((f x ≡ false) × (g x ≡ h x)) ⊎ ((g x ≡ false) × (f x ≡ h x))) → SetOf h all
+set-both f g h row all one two parts x few =
+    two x few ∙ ap (λ (t : Bool). t || g x) (one x few ∙ ap (λ (t : Bool). t || f x) (row_zero 2 x)) ∙ by (parts x)
   where
-    by : ((f x ≡ false) × (g x ≡ h x)) ⊎ ((g x ≡ false) × (f x ≡ h x)) → ((row_bit row x || f x) || g x) ≡ (row_bit row x || h x)
-    by (inl e) = ap₂ (λ (s t : Bool). (row_bit row x || s) || t) e.0 e.1 ∙ ap (λ (t : Bool). t || h x) (or-false (row_bit row x))
-    by (inr e) = ap₂ (λ (s t : Bool). (row_bit row x || s) || t) e.1 e.0 ∙ or-false (row_bit row x || h x)
+    by : ((f x ≡ false) × (g x ≡ h x)) ⊎ ((g x ≡ false) × (f x ≡ h x)) → (f x || g x) ≡ h x
+    by (inl e) = ap₂ ◌||◌ e.0 e.1
+    by (inr e) = ap₂ ◌||◌ e.1 e.0 ∙ or-false (h x)
 
 -- the next bit of a word
 
-pub next-none : (word from : ℕ) → from < 64 → word / 2 ^ from ≡ 0 → NextBit word from 64
-next-none word from low none =
-    record { low = omega arith; high = omega arith; between = λ k h l. left-none word from none k h; here = λ l. absurd (omega arith) }
-
-pub next-some : (word from : ℕ) → word < 2 ^ 64 → from < 64 → 0 < word / 2 ^ from → NextBit word from (from + count_trailing_zeros 64 (word / 2 ^ from))
+pub next-some : (word from : ℕ) → word < 2 ^ 64 → from < 64 → 0 < word / 2 ^ from → Lowest (word_bit word) from 64 (from + count_trailing_zeros 64 (word / 2 ^ from))
 next-some word from fits low some =
     let few = left-few word from fits (omega arith) some in
     record {
       low = omega arith;
       high = omega arith;
       between = λ k h l. left-zeros word from k h l;
-      here = λ l. sym (bit-left word from (count_trailing_zeros 64 (word / 2 ^ from))) ∙ trailing-here 64 (word / 2 ^ from) (omega arith);
+      here = sym (bit-left word from (count_trailing_zeros 64 (word / 2 ^ from))) ∙ trailing-here 64 (word / 2 ^ from) (omega arith);
     }
 
 -- the next byte of a set
 
-pub next_low : (row : List ℕ) (from r : ℕ) → r < 64 → NextBit (get_or row 0 0) from r → NextByte row from r
-next_low row from r few next =
+pub next_low : (row : List ℕ) (from r : ℕ) → Lowest (word_bit (get_or row 0 0)) from 64 r → Lowest (row_bit row) from 127 r
+next_low row from r next =
+    let few = next.high in
     record {
       low = next.low;
       high = omega arith;
       between = λ x h l. sym (low_bit row x (omega arith)) ∙ next.between x h l;
-      here = λ l. sym (low_bit row r few) ∙ next.here few;
+      here = sym (low_bit row r few) ∙ next.here;
     }
 
 -- nothing in the first word
-pub next-over : (row : List ℕ) (from bit r : ℕ) → from < 64 → 64 ≤ bit → NextBit (get_or row 0 0) from bit → NextByte row 64 r → NextByte row from r
-next-over row from bit r few none bits next =
-    record {
-      low = omega (arith, next.low);
-      high = next.high;
-      between = λ x h l. by x h l (below-or-from x 64);
-      here = next.here;
-    }
-  where
-    by : (x : ℕ) → from ≤ x → x < r → (x < 64) ⊎ (64 ≤ x) → row_bit row x ≡ false
-    by x h l (inl less) = sym (low_bit row x less) ∙ bits.between x h (omega arith)
-    by x h l (inr more) = next.between x more l
+module _ (row : List ℕ) (from : ℕ) (none : (k : ℕ) → from ≤ k → k < 64 → word_bit (get_or row 0 0) k ≡ false) where
+  -- nor in the second before some bit
+  none-before : (bit : ℕ) → ((k : ℕ) → from - 64 ≤ k → k < bit → word_bit (get_or row 1 0) k ≡ false)
+      → (x : ℕ) → from ≤ x → x < 128 → x < 64 + bit → row_bit row x ≡ false
+  none-before bit before x h few low = by (below-or-from x 64)
+    where
+      by : (x < 64) ⊎ (64 ≤ x) → row_bit row x ≡ false
+      by (inl less) = sym (low_bit row x less) ∙ none x h less
+      by (inr more) =
+          ap (row_bit row) {x = x} {y = 64 + (x - 64)} (omega arith)
+          ∙ sym (high_bit row (x - 64) (omega arith))
+          ∙ before (x - 64) (omega arith) (omega arith)
 
-module _ (row : List ℕ) (from bit : ℕ) (high : 64 ≤ from) (few : from ≤ 127) (next : NextBit (get_or row 1 0) (from - 64) bit) where
-  bit-between : (x : ℕ) → from ≤ x → x < 128 → x - 64 < bit → row_bit row x ≡ false
-  bit-between x h l low =
-      ap (row_bit row) {x = x} {y = 64 + (x - 64)} (omega arith) ∙ sym (high_bit row (x - 64) (omega arith)) ∙ next.between (x - 64) (omega arith) low
-
-  pub next-high-some : bit < 63 → NextByte row from (64 + bit)
-  next-high-some low =
+  pub next_high : (bit : ℕ) → Lowest (word_bit (get_or row 1 0)) (from - 64) 64 bit → 64 + bit < 127 → Lowest (row_bit row) from 127 (64 + bit)
+  next_high bit next last =
+      let up = next.low in
       record {
-        low = omega (arith, next.low);
-        high = omega arith;
-        between = λ x h l. bit-between x h (omega arith) (omega arith);
-        here = λ l. sym (high_bit row bit (omega arith)) ∙ next.here (omega arith);
+        low = omega arith;
+        high = last;
+        between = λ x h l. none-before bit next.between x h (omega arith) l;
+        here = sym (high_bit row bit (omega arith)) ∙ next.here;
       }
 
-  pub next-high-none : 63 ≤ bit → NextByte row from 127
-  next-high-none last =
-      record {
-        low = few;
-        high = omega arith;
-        between = λ x h l. bit-between x h (omega arith) (omega arith);
-        here = λ l. absurd (omega arith);
-      }
+  pub next-last : (bit : ℕ) → Lowest (word_bit (get_or row 1 0)) (from - 64) 64 bit → 126 < 64 + bit → NextByte row from None
+  next-last bit next last x h l = none-before bit next.between x h (omega arith) (omega arith)
+
+  pub next-none : NextBit (get_or row 1 0) (from - 64) None → NextByte row from None
+  next-none next x h l = none-before 64 next x h (omega arith) (omega arith)
 
 -- the bytes to try: those named and the lowest that is not, without those that follow others
-module _ (named followers unnamed more free all : List ℕ) (lowest : ℕ)
-    (turned : (x : ℕ) → x < 128 → row_bit unnamed x ≡ not (row_bit named x)) (next : NextByte unnamed 33 lowest)
-    (adds : Adds named (λ x. eqb x lowest) more) (others : (x : ℕ) → x < 128 → row_bit free x ≡ not (row_bit followers x))
-    (both : (x : ℕ) → x < 128 → row_bit all x ≡ (row_bit more x && row_bit free x)) where
-  -- what is not tried and follows no other byte is not named, and is not the lowest
-  neither : (n l f : Bool) → ((n || l) && not f) ≡ false → f ≡ false → (n ≡ false) × (l ≡ false)
-  neither true l true e w = absurd (false≢true (sym w))
-  neither true l false e w = absurd (false≢true (sym e))
-  neither false true true e w = absurd (false≢true (sym w))
-  neither false true false e w = absurd (false≢true (sym e))
-  neither false false f e w = (refl, refl)
-
+module _ (named followers unnamed free all : List ℕ)
+    (turned : (x : ℕ) → x < 128 → row_bit unnamed x ≡ not (row_bit named x)) (others : (x : ℕ) → x < 128 → row_bit free x ≡ not (row_bit followers x)) where
   unturned : (n u : Bool) → u ≡ not n → u ≡ true → n ≡ false
   unturned true u e w = absurd (false≢true (sym e ∙ w))
   unturned false u e w = refl
 
-  lower : (x : ℕ) → IsByte x → row_bit named x ≡ false → eqb x lowest ≡ false → lowest < x
-  lower x byte none other = by (below-or-from x lowest)
+  -- what is not tried and follows no other byte was not to be tried
+  left_out : (more : List ℕ) → ((x : ℕ) → x < 128 → row_bit all x ≡ (row_bit more x && row_bit free x))
+      → (x : ℕ) → x < 128 → row_bit all x ≡ false → (row_bit followers x ≡ true) ⊎ (row_bit more x ≡ false)
+  left_out more both x few none = by (row_bit more x) (row_bit followers x) refl refl (sym (both x few ∙ ap (λ (t : Bool). row_bit more x && t) (others x few)) ∙ none)
     where
-      by : (x < lowest) ⊎ (lowest ≤ x) → lowest < x
-      by (inl less) =
-          let high = byte.1 in
-          absurd (false≢true (sym (next.between x byte.0 less) ∙ turned x (omega arith) ∙ ap not none))
-      by (inr from) = lt_of_le-ne from (λ w. eqb-false x lowest other (sym w))
+      by : (m f : Bool) → row_bit more x ≡ m → row_bit followers x ≡ f → (row_bit more x && not (row_bit followers x)) ≡ false
+          → (row_bit followers x ≡ true) ⊎ (row_bit more x ≡ false)
+      by true true em ef w = inl ef
+      by true false em ef w = absurd (false≢true (sym w ∙ ap₂ (λ (m f : Bool). m && not f) em ef))
+      by false f em ef w = inr em
 
-  pub to-try : ToTry named followers all
-  to-try x byte none =
+  -- all bytes of strings are named
+  pub to-try_named : NextByte unnamed 33 None → ((x : ℕ) → x < 128 → row_bit all x ≡ (row_bit named x && row_bit free x)) → ToTry named followers all
+  to-try_named every both x byte none =
       let high = byte.1 in
-      by (row_bit followers x) refl
-      (sym (both x (omega arith) ∙ ap₂ ◌&&◌ (adds x (omega arith)) (others x (omega arith))) ∙ none)
+      by (left_out named both x (omega arith) none)
     where
-      by : (t : Bool) → row_bit followers x ≡ t → ((row_bit named x || eqb x lowest) && not (row_bit followers x)) ≡ false
+      by : (row_bit followers x ≡ true) ⊎ (row_bit named x ≡ false)
           → (row_bit followers x ≡ true) ⊎ ((row_bit named x ≡ false) × ((a : ℕ) × IsByte a × (a < x) × (row_bit named a ≡ false)))
-      by true e w = inl e
-      by false e w =
+      by (inl follows) = inl follows
+      by (inr lacks) =
           let high = byte.1 in
-          let low = next.low in
-          let parts = neither (row_bit named x) (eqb x lowest) (row_bit followers x) w e in
-          let less = lower x byte parts.0 parts.1 in
-          inr (
-            parts.0,
-            (
-              lowest,
-              (omega arith, omega arith),
-              less,
-              unturned (row_bit named lowest) (row_bit unnamed lowest) (turned lowest (omega arith)) (next.here (omega arith)),
-            ),
-          )
+          absurd (false≢true (sym (every x byte.0 (omega arith)) ∙ turned x (omega arith) ∙ ap not lacks))
+
+  -- one is not
+  module _ (lowest : ℕ) (more : List ℕ) (next : NextByte unnamed 33 (Some lowest)) (adds : Adds named (λ x. eqb x lowest) more)
+      (both : (x : ℕ) → x < 128 → row_bit all x ≡ (row_bit more x && row_bit free x)) where
+    neither : (n l : Bool) → (n || l) ≡ false → (n ≡ false) × (l ≡ false)
+    neither true l e = absurd (false≢true (sym e))
+    neither false l e = (refl, e)
+
+    lower : (x : ℕ) → IsByte x → row_bit named x ≡ false → eqb x lowest ≡ false → lowest < x
+    lower x byte none other = by (below-or-from x lowest)
+      where
+        by : (x < lowest) ⊎ (lowest ≤ x) → lowest < x
+        by (inl less) =
+            let high = byte.1 in
+            absurd (false≢true (sym (next.between x byte.0 less) ∙ turned x (omega arith) ∙ ap not none))
+        by (inr from) = lt_of_le-ne from (λ w. eqb-false x lowest other (sym w))
+
+    pub to-try : ToTry named followers all
+    to-try x byte none =
+        let high = byte.1 in
+        by (left_out more both x (omega arith) none)
+      where
+        by : (row_bit followers x ≡ true) ⊎ (row_bit more x ≡ false)
+            → (row_bit followers x ≡ true) ⊎ ((row_bit named x ≡ false) × ((a : ℕ) × IsByte a × (a < x) × (row_bit named a ≡ false)))
+        by (inl follows) = inl follows
+        by (inr lacks) =
+            let high = byte.1 in
+            let low = next.low in
+            let under = next.high in
+            let parts = neither (row_bit named x) (eqb x lowest) (sym (adds x (omega arith)) ∙ lacks) in
+            let less = lower x byte parts.0 parts.1 in
+            inr (
+              parts.0,
+              (
+                lowest,
+                (omega arith, omega arith),
+                less,
+                unturned (row_bit named lowest) (row_bit unnamed lowest) (turned lowest (omega arith)) next.here,
+              ),
+            )

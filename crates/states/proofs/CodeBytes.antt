@@ -72,6 +72,14 @@ fold-letter b x low high = by (fold-cases x)
 pub names-none : (code x : ℕ) → code < 4 → takes_byte code x ≡ false
 names-none code x low = ap₂ ◌||◌ (ne_eqb code (x * 2 + 4) (λ w. omega arith)) (ne_eqb code (fold_byte x * 2 + 5) (λ w. omega arith))
 
+-- nor is it the code of a byte
+pub names-far : (code x : ℕ) → 512 ≤ code → x < 128 → takes_byte code x ≡ false
+names-far code x high few = by (fold-cases x)
+  where
+    by : ((65 ≤ x) × (x ≤ 90) × (fold_byte x ≡ x + 32)) ⊎ (((x < 65) ⊎ (90 < x)) × (fold_byte x ≡ x)) → takes_byte code x ≡ false
+    by (inl u) = let e = u.2 in ap₂ ◌||◌ (ne_eqb code (x * 2 + 4) (λ w. omega arith)) (ne_eqb code (fold_byte x * 2 + 5) (λ w. omega arith))
+    by (inr u) = let e = u.1 in ap₂ ◌||◌ (ne_eqb code (x * 2 + 4) (λ w. omega arith)) (ne_eqb code (fold_byte x * 2 + 5) (λ w. omega arith))
+
 -- one, exactly
 pub names-exact : (code x : ℕ) → 4 ≤ code → code % 2 ≡ 0 → eqb x (code / 2 - 2) ≡ takes_byte code x
 names-exact code x high even =

@@ -1,7 +1,7 @@
 -- Marking a position in the rows of bytes: the row of a byte is marked and every other word stays.
 use Prim.Native.Nat.{ℕ, ◌+◌, ◌*◌, ◌/◌, ◌%◌, ◌^◌, ◌≤◌, ◌<◌}
 use mathlib.Core.Path.{◌≡◌, refl, sym, ◌∙◌, ap, ap₂}
-use mathlib.Core.Bool.{Bool, true, false}
+use mathlib.Core.Bool.{Bool, true, false, ◌&&◌}
 use mathlib.Core.List.{List}
 use mathlib.Core.Logic.{◌⊎◌, inl, inr}
 use native.Mathlib.Omega.{arith}
@@ -11,7 +11,8 @@ use lib.Dec.{eqb, ltb}
 use lib.ListN.{length, get_or, take, drop, set, length-set}
 use lib.Seq.{get_or-set_other, take-set-le, take-set-lt, drop-set-lt, drop-set-add}
 use borrow.Author.Tests.{lt-ltb, le-ltb, eqb-true, eqb-false, ne_eqb}
-use Rattle.matching.specs.Machinery.Rows.{mark_row}
+use Rattle.matching.specs.Machinery.Rows.{row_bit, mark_row}
+use Rattle.states.specs.Machinery.Bytes.{SetOf}
 use Rattle.states.specs.Machinery.Rows.{taken_at, stars_at, row_at, IsByte, taken_laid}
 use Rattle.states.specs.Machinery.Taken.{marked_at, Marks}
 use Rattle.states.proofs.Below.{below-or-from}
@@ -110,19 +111,55 @@ marks-both before words after p f g h one two parts =
         ∙ one.rows x byte
         ∙ ap (mark_row (taken_laid before x) p) e.1
 
--- one byte more than those below it
-pub marks-next : (before words : List ℕ) (p b : ℕ) → p < 512 → stars_at ≤ length words → IsByte b → Marks before words p (λ x. ltb x b)
-    → Marks before (marked_at words (607 + b) p) p (λ x. ltb x (b + 1))
-marks-next before words p b low room is m =
-    marks-both before words (marked_at words (607 + b) p) p (λ x. ltb x b) (λ x. eqb x b) (λ x. ltb x (b + 1)) m (marks-byte words p b low room is)
-    (λ x byte. by x (below-or-from x b))
-  where
-    last : (x : ℕ) → b ≤ x → (t : Bool) → eqb x b ≡ t → eqb x b ≡ ltb x (b + 1)
-    last x h true e = e ∙ sym (lt-ltb x (b + 1) (omega (arith, eqb-true x b e)))
-    last x h false e =
-        let more : b < x = lt_of_le-ne h (λ w. eqb-false x b e (sym w)) in
-        e ∙ sym (le-ltb x (b + 1) (omega arith))
+-- of the bytes of a set, one after the other
 
-    by : (x : ℕ) → (x < b) ⊎ (b ≤ x) → ((ltb x b ≡ false) × (eqb x b ≡ ltb x (b + 1))) ⊎ ((eqb x b ≡ false) × (ltb x b ≡ ltb x (b + 1)))
-    by x (inl h) = inr (ne_eqb x b (λ w. omega arith), lt-ltb x b h ∙ sym (lt-ltb x (b + 1) (omega arith)))
-    by x (inr h) = inl (le-ltb x b h, last x h (eqb x b) refl)
+-- whether x is one of those below a bound
+abbrev pub below_in : List ℕ → ℕ → ℕ → Bool
+below_in set bound x = ltb x bound && row_bit set x
+
+pub marks_begin : (words : List ℕ) (p : ℕ) (set : List ℕ) (from : ℕ) → from ≤ 0x21 → Marks words words p (below_in set from)
+marks_begin words p set from low =
+    marks-none words p (below_in set from)
+    (λ x byte. let first = byte.0 in ap (λ (t : Bool). t && row_bit set x) (le-ltb x from (omega arith)))
+
+module _ (before words : List ℕ) (p : ℕ) (set : List ℕ) (from : ℕ) (m : Marks before words p (below_in set from)) where
+  -- no byte is passed
+  pub marks_skip : (b : ℕ) → from ≤ b → ((x : ℕ) → from ≤ x → x < b → row_bit set x ≡ false) → Marks before words p (below_in set b)
+  marks_skip b up none = marks-as before words p (below_in set from) (below_in set b) m (λ x byte. by x (below-or-from x from) (below-or-from x b))
+    where
+      by : (x : ℕ) → (x < from) ⊎ (from ≤ x) → (x < b) ⊎ (b ≤ x) → below_in set from x ≡ below_in set b x
+      by x (inl less) other = ap (λ (t : Bool). t && row_bit set x) (lt-ltb x from less ∙ sym (lt-ltb x b (omega arith)))
+      by x (inr h) (inl less) =
+          ap (λ (t : Bool). t && row_bit set x) (le-ltb x from h) ∙ sym (ap₂ ◌&&◌ (lt-ltb x b less) (none x h less))
+      by x (inr h) (inr more) = ap (λ (t : Bool). t && row_bit set x) (le-ltb x from h ∙ sym (le-ltb x b more))
+
+  -- one byte more
+  pub marks_more : from < 127 → 0x21 ≤ from → p < 512 → stars_at ≤ length words → row_bit set from ≡ true
+      → Marks before (marked_at words (607 + from) p) p (below_in set (from + 1))
+  marks_more high first low room here =
+      marks-both before words (marked_at words (607 + from) p) p (below_in set from) (λ x. eqb x from) (below_in set (from + 1)) m
+      (marks-byte words p from low room (first, omega arith)) (λ x byte. by x (below-or-from x from))
+    where
+      last : (x : ℕ) → from ≤ x → (t : Bool) → eqb x from ≡ t → eqb x from ≡ below_in set (from + 1) x
+      last x h true e =
+          let same = eqb-true x from e in
+          e ∙ sym (ap₂ ◌&&◌ (lt-ltb x (from + 1) (omega arith)) (ap (row_bit set) same ∙ here))
+      last x h false e =
+          let more : from < x = lt_of_le-ne h (λ w. eqb-false x from e (sym w)) in
+          e ∙ sym (ap (λ (t : Bool). t && row_bit set x) (le-ltb x (from + 1) (omega arith)))
+
+      by : (x : ℕ) → (x < from) ⊎ (from ≤ x)
+          → ((below_in set from x ≡ false) × (eqb x from ≡ below_in set (from + 1) x)) ⊎ ((eqb x from ≡ false) × (below_in set from x ≡ below_in set (from + 1) x))
+      by x (inl h) =
+          inr (ne_eqb x from (λ w. omega arith), ap (λ (t : Bool). t && row_bit set x) (lt-ltb x from h ∙ sym (lt-ltb x (from + 1) (omega arith))))
+      by x (inr h) = inl (ap (λ (t : Bool). t && row_bit set x) (le-ltb x from h), last x h (eqb x from) refl)
+
+  -- all bytes of strings
+  pub marks_end : (f : ℕ → Bool) → SetOf f set → ((x : ℕ) → from ≤ x → x < 127 → row_bit set x ≡ false) → Marks before words p f
+  marks_end f of none = marks-as before words p (below_in set from) f m (λ x byte. by x byte (below-or-from x from))
+    where
+      by : (x : ℕ) → IsByte x → (x < from) ⊎ (from ≤ x) → below_in set from x ≡ f x
+      by x byte (inl less) = let last = byte.1 in ap (λ (t : Bool). t && row_bit set x) (lt-ltb x from less) ∙ of x (omega arith)
+      by x byte (inr h) =
+          let last = byte.1 in
+          ap (λ (t : Bool). t && row_bit set x) (le-ltb x from h) ∙ sym (none x h (omega arith)) ∙ of x (omega arith)

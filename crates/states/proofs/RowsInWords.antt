@@ -1,16 +1,15 @@
 -- Rows and keys in the words of a workspace: a row or a key that is laid down is there, and every other one is as it was.
 use Prim.Native.Nat.{ℕ, suc, ◌+◌, ◌-◌, ◌*◌, ◌≤◌, ◌<◌, min}
-use mathlib.Core.Path.{◌≡◌, refl, sym, ◌∙◌, ap, ap₂}
+use mathlib.Core.Path.{◌≡◌, refl, sym, ◌∙◌, ap}
 use mathlib.Core.Bool.{true, false, false≢true}
 use Rattle.std.specs.Prelude.{Option, None, Some}
 use Rattle.std.specs.Option.{is_some}
 use mathlib.Core.List.{List, [], ◌∷◌, ◌++◌}
 use mathlib.Core.Logic.{◌⊎◌, inl, inr}
-use native.Mathlib.Numerals.{add-one}
 use native.Mathlib.Omega.{arith}
 use lib.ListN.{length, get_or, take, drop, set, length-take, length-drop, length-set, length-append}
 use lib.Arith.{lt_of_le-ne}
-use lib.Seq.{sets, sets-eq, length-sets, length-take-le, take_all, take-suc, take_at, drop_at, drop-append-le, get_or-take, get_or-drop, get_or-set_same, get_or-set_other, drop-set-lt, ext_get_or}
+use lib.Seq.{sets, sets-eq, length-sets, length-take-le, take_at, drop_at, drop-append-le, get_or-take, get_or-drop, get_or-set_same, get_or-set_other, drop-set-lt, ext_get_or}
 use Rattle.states.specs.Machinery.Rows.{most_states, keys_at, codes_at, row_at, key_at}
 use Rattle.states.specs.Machinery.Search.{FirstAt, Untouched}
 use Rattle.states.proofs.Below.{below-or-from}
@@ -40,18 +39,6 @@ part_same l m at n long same =
     ∙ sym (get_or-drop at m k 0)
     ∙ sym (get_or-take n (drop at m) k 0 inside))
 
--- two lists that agree so far agree one element further
-pub prefix-next : (l m : List ℕ) (k : ℕ) → k < length l → k < length m → take k l ≡ take k m → get_or l k 0 ≡ get_or m k 0 → take (k + 1) l ≡ take (k + 1) m
-prefix-next l m k low high same next =
-    ap (λ (n : ℕ). take n l) (add-one k)
-    ∙ take-suc l k 0 low
-    ∙ ap₂ (λ (f : List ℕ) (x : ℕ). f ++ (x ∷ [])) same next
-    ∙ sym (take-suc m k 0 high)
-    ∙ ap (λ (n : ℕ). take n m) (sym (add-one k))
-
-pub prefix-all : (l m : List ℕ) (k : ℕ) → length l ≤ k → length m ≤ k → take k l ≡ take k m → l ≡ m
-prefix-all l m k low high same = sym (take_all k l low) ∙ same ∙ take_all k m high
-
 -- a row has eight words, and these stand in the workspace
 pub row-length : (words : List ℕ) (i : ℕ) → i * 8 + 8 ≤ length words → length (row_at words i) ≡ 8
 row-length words i room = length-take-le 8 (drop (i * 8) words) (omega (arith, length-drop (i * 8) words))
@@ -59,15 +46,19 @@ row-length words i room = length-take-le 8 (drop (i * 8) words) (omega (arith, l
 pub row_word : (words : List ℕ) (i k : ℕ) → k < 8 → get_or (row_at words i) k 0 ≡ get_or words (i * 8 + k) 0
 row_word words i k low = get_or-take 8 (drop (i * 8) words) k 0 low ∙ get_or-drop (i * 8) words k 0
 
--- the row that was laid down
+-- words that were laid down, and a row that was
+
+pub part_laid : (words : List ℕ) (at n : ℕ) (row : List ℕ) → length row ≡ n → at + n ≤ length words → take n (drop at (sets words at row)) ≡ row
+part_laid words at n row long room =
+    let front : length (take at words) ≡ at = length-take-le at words (omega arith) in
+    ap (λ (l : List ℕ). take n (drop at l)) (sets-eq row words at (omega arith))
+    ∙ ap (take n)
+    (drop-append-le at (take at words ++ row) (drop (at + length row) words) (omega (arith, length-append (take at words) row))
+    ∙ ap (λ (l : List ℕ). l ++ drop (at + length row) words) (drop_at (take at words) row at front))
+    ∙ take_at row (drop (at + length row) words) n long
+
 pub row_laid : (words : List ℕ) (i : ℕ) (row : List ℕ) → length row ≡ 8 → i * 8 + 8 ≤ length words → row_at (sets words (i * 8) row) i ≡ row
-row_laid words i row eight room =
-    let front : length (take (i * 8) words) ≡ i * 8 = length-take-le (i * 8) words (omega arith) in
-    ap (λ (l : List ℕ). take 8 (drop (i * 8) l)) (sets-eq row words (i * 8) (omega arith))
-    ∙ ap (take 8)
-    (drop-append-le (i * 8) (take (i * 8) words ++ row) (drop (i * 8 + length row) words) (omega (arith, length-append (take (i * 8) words) row))
-    ∙ ap (λ (l : List ℕ). l ++ drop (i * 8 + length row) words) (drop_at (take (i * 8) words) row (i * 8) front))
-    ∙ take_at row (drop (i * 8 + length row) words) 8 eight
+row_laid words i row eight room = part_laid words (i * 8) 8 row eight room
 
 -- every other row
 pub row_kept : (words : List ℕ) (i j : ℕ) (row : List ℕ) → length row ≡ 8 → (j ≡ i → ⊥) → row_at (sets words (i * 8) row) j ≡ row_at words j

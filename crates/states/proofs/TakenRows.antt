@@ -4,8 +4,8 @@ use Prim.Native.Nat.{ℕ, suc, ◌+◌, ◌-◌, ◌*◌, ◌/◌, ◌≤◌, �
 use mathlib.Core.Path.{◌≡◌, refl, sym, ◌∙◌, ap, ap₂, subst}
 use mathlib.Core.List.{List, [], ◌∷◌, ◌++◌}
 use native.Mathlib.Omega.{arith}
-use lib.ListN.{length, get_or, take, drop, set, replicate, length-take, length-drop, length-set, length-append, length-replicate, get_or-replicate, get_or-append}
-use lib.Seq.{sets, length-sets, length-take-le, take_at, take_all, drop_at, drop-cons, take-set-le, drop-set-lt, drop-drop, get_or-take, get_or-drop, get_or-append-add, get_or-set_same, get_or-set_other, ext_get_or}
+use lib.ListN.{length, get_or, take, drop, replicate, length-take, length-drop, length-append, length-replicate, get_or-replicate, get_or-append}
+use lib.Seq.{sets, length-sets, length-take-le, take_at, drop_at, drop-cons, drop-drop, get_or-take, get_or-drop, get_or-append-add, ext_get_or}
 use Rattle.matching.specs.Machinery.Rows.{pack}
 use Rattle.matching.specs.Machinery.Words.{taken_bit, taken_row, star_row, words_row}
 use Rattle.matching.proofs.Rows.{upto}
@@ -16,7 +16,7 @@ use Rattle.states.specs.Machinery.Taken.{takes, Marks, RowsLaid, FollowersOf, Fo
 use Rattle.states.specs.Machinery.Search.{step_from, Searchable}
 use Rattle.states.proofs.Parts.{part-kept, front_kept, sets-front, sets_behind}
 use Rattle.states.proofs.Followers.{followers-as}
-use Rattle.states.proofs.RowsInWords.{row-length, row_word, row_laid, row_kept}
+use Rattle.states.proofs.RowsInWords.{row-length, row_word, part_laid, row_laid, row_kept}
 
 -- no more codes than positions
 pub codes-few : (positions : ℕ) (words : List ℕ) → length (codes_laid positions words) ≤ positions
@@ -136,42 +136,20 @@ rows_whole positions words cleared after most r laid =
 
 -- the bytes that follow others
 
--- two words laid down
-abbrev pub with_pair : List ℕ → ℕ → List ℕ → List ℕ
-with_pair words at row = set (set words at (get_or row 0 0)) (at + 1) (get_or row 1 0)
-
 -- the two words at a place
 pub pair-at : (words : List ℕ) (at : ℕ) → at + 2 ≤ length words → take 2 (drop at words) ≡ get_or words at 0 ∷ get_or words (at + 1) 0 ∷ []
 pair-at words at room =
     ap (take 2) (drop-cons words at 0 (omega arith) ∙ ap (λ (l : List ℕ). get_or words at 0 ∷ l) (drop-cons words (suc at) 0 (omega arith)))
     ∙ ap (λ (k : ℕ). get_or words at 0 ∷ get_or words k 0 ∷ []) {x = suc at} {y = at + 1} (omega arith)
 
-pub followers-set : (words row : List ℕ) → prints_at ≤ length words → length row ≡ 2 → FollowersOf (taken_laid words) row → FollowersSet words (with_pair words 5880 row)
+pub followers-set : (words row : List ℕ) → prints_at ≤ length words → length row ≡ 2 → FollowersOf (taken_laid words) row → FollowersSet words (sets words 5880 row)
 followers-set words row room two of =
     record {
-      followers = subst (FollowersOf (taken_laid words)) (sym laid) of;
-      front = take-set-le followers_at (set words 5880 first) 5881 second (omega arith) ∙ take-set-le followers_at words 5880 first (omega arith);
-      behind = drop-set-lt followers_end (set words 5880 first) 5881 second (omega arith) ∙ drop-set-lt followers_end words 5880 first (omega arith);
-      same = long;
+      followers = subst (FollowersOf (taken_laid words)) (sym (part_laid words 5880 2 row two (omega arith))) of;
+      front = sets-front words row 5880 followers_at (omega arith);
+      behind = sets_behind words row 5880 followers_end (omega arith);
+      same = length-sets words 5880 row;
     }
-  where
-    first : ℕ
-    first = get_or row 0 0
-
-    second : ℕ
-    second = get_or row 1 0
-
-    long : length (with_pair words 5880 row) ≡ length words
-    long = length-set (set words 5880 first) 5881 second ∙ length-set words 5880 first
-
-    laid : followers_laid (with_pair words 5880 row) ≡ row
-    laid =
-        pair-at (with_pair words 5880 row) 5880 (omega (arith, long))
-        ∙ ap₂ (λ (x y : ℕ). x ∷ y ∷ [])
-        (get_or-set_other (set words 5880 first) 5881 5880 second 0 (λ w. omega arith) ∙ get_or-set_same words 5880 first 0 (omega arith))
-        (get_or-set_same (set words 5880 first) 5881 second 0 (omega (arith, length-set words 5880 first)))
-        ∙ sym (pair-at row 0 (omega arith))
-        ∙ take_all 2 row (omega arith)
 
 -- all of it
 

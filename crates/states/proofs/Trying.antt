@@ -13,7 +13,7 @@ use Rattle.matching.specs.Machinery.Words.{taken_row, ahead_row}
 use Rattle.matching.proofs.ByWords.{same_taken}
 use Rattle.matching.proofs.AlikeBytes.{same_ahead}
 use Rattle.states.specs.Machinery.Rows.{row_at, codes_laid, IsByte, followers_laid}
-use Rattle.states.specs.Machinery.Bytes.{NextByte, ToTry, Names}
+use Rattle.states.specs.Machinery.Bytes.{ToTry, Names}
 use Rattle.states.specs.Machinery.Search.{Enough, Searchable, Partial}
 use Rattle.states.proofs.Below.{below-or-from}
 use Rattle.states.proofs.Stepping.{step-known}
@@ -76,10 +76,9 @@ module _ (codes words bytes : List ℕ) (n i : ℕ) (low : i < n) (every : Enoug
       (skip-byte (b + d) (omega arith, omega arith) (none (b + d) (omega arith) (omega arith))
       (skip-bytes d b from (omega arith) (λ x h k. none x h (omega arith)) p))
 
-  -- nor is there anything to try before the next byte to be tried
-  pub skip-to : (b r : ℕ) → 0x21 ≤ b → NextByte bytes b r → Partial codes words n (i * 128 + b) → Partial codes words n (i * 128 + r)
-  skip-to b r from next p =
-      let up = next.low in
-      let high = next.high in
+  -- nor is there anything to try before the next byte to be tried, or before the end where there is none
+  pub skip-to : (b r : ℕ) → 0x21 ≤ b → b ≤ r → r ≤ 127 → ((x : ℕ) → b ≤ x → x < r → row_bit bytes x ≡ false)
+      → Partial codes words n (i * 128 + b) → Partial codes words n (i * 128 + r)
+  skip-to b r from up high none p =
       subst (λ (k : ℕ). Partial codes words n (i * 128 + k)) {x = b + (r - b)} {y = r} (omega arith)
-      (skip-bytes (r - b) b from (omega arith) (λ x h k. next.between x h (omega arith)) p)
+      (skip-bytes (r - b) b from (omega arith) (λ x h k. none x h (omega arith)) p)

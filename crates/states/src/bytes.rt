@@ -1,93 +1,137 @@
-// Sets of bytes as two words: bit b says whether byte b is among them.
-ghost use Rattle.std.specs.Prelude.{◌≡◌, ◌&&◌, not, ℕ, ◌≤◌, ◌<◌, eqb};
-ghost use Rattle.matching.specs.Machinery.Rows.{word_bit, row_bit};
-ghost use Rattle.states.specs.Machinery.Bytes.{Adds, NextBit, NextByte, ToTry};
+// Sets of bytes below 128, and which bytes of strings are tried from a state.
+ghost use Rattle.std.specs.Prelude.{◌≡◌, ◌+◌, ◌-◌, eqb, IfSome};
+ghost use Rattle.std.specs.Iterator.{at_most};
+ghost use Rattle.states.specs.Machinery.Bytes.{Adds, Others, Common, Both, NextBit, NextByte, ToTry};
 
-use crate::limits::FIRST_BYTE;
+use crate::limits::{FIRST_BYTE, LAST_BYTE};
+use std::ops::{BitAnd, BitOr, Not};
 
-// A set and one byte more; a number over 127 is none.
-pub(crate) fn with_byte(set: [u64; 2], b: u64) -> [u64; 2]
-    ensures { Adds set (λ x. eqb x b) result }
-{
-    if 127 < b {
-        return set;
+/// A set of bytes below 128: bit b of the two words says whether byte b is among them.
+#[derive(Clone, Copy)]
+pub(crate) struct ByteSet {
+    pub words: [u64; 2],
+}
+
+impl ByteSet {
+    /// No byte.
+    pub const EMPTY: ByteSet = ByteSet { words: [0; 2] };
+
+    /// This and one byte more; a number over 127 is none.
+    pub fn with(self, b: u8) -> ByteSet
+        ensures { Adds self.words (λ x. eqb x b) result.words }
+    {
+        if 127 < b {
+            return self;
+        }
+        let mut words = self.words;
+        words[usize::from(b / 64)] |= 1u64 << (b % 64);
+        ByteSet { words }
     }
-    let i = (b / 64) as usize;
-    let mut more = set;
-    let word = more[i];
-    more[i] = word | (1u64 << (b % 64));
-    more
+
+    /// The lowest byte of strings from one on.
+    fn next_byte(self, from: u8) -> Option<u8>
+        ensures { NextByte self.words from result }
+    {
+        if let Some(bit) = next_bit(self.words[0], u32::from(from)) {
+            return Some(bit as u8);
+        }
+        let bit = next_bit(self.words[1], u32::from(from.saturating_sub(64)))?;
+        let b = 64 + bit as u8;
+        if b <= LAST_BYTE { Some(b) } else { None }
+    }
+
+    /// The bytes of strings, ascending.
+    pub fn bytes(self) -> Bytes
+        ensures set { result.set ≡ self }
+        ensures from { result.from ≡ 0x21 }
+    {
+        Bytes {
+            set: self,
+            from: FIRST_BYTE,
+        }
+    }
 }
 
-// A word with each bit turned.
-fn turned(word: u64) -> u64
-    ensures { (k : ℕ) → k < 64 → word_bit result k ≡ not (word_bit word k) }
-{
-    !word
+impl Not for ByteSet {
+    type Output = ByteSet;
+
+    ghost not_gives = { λ set result. Others set.words result.words };
+
+    fn not(self) -> ByteSet {
+        let [low, high] = self.words;
+        ByteSet {
+            words: [!low, !high],
+        }
+    }
 }
 
-// The bytes that are not in a set.
-fn others(set: [u64; 2]) -> [u64; 2]
-    ensures { (x : ℕ) → x < 128 → row_bit result x ≡ not (row_bit set x) }
-{
-    let low = turned(set[0]);
-    let high = turned(set[1]);
-    [low, high]
+impl BitAnd for ByteSet {
+    type Output = ByteSet;
+
+    ghost bitand_gives = { λ set other result. Common set.words other.words result.words };
+
+    fn bitand(self, other: ByteSet) -> ByteSet {
+        let [low, high] = self.words;
+        ByteSet {
+            words: [low & other.words[0], high & other.words[1]],
+        }
+    }
 }
 
-// The bytes that are in both of two sets.
-fn common(set: [u64; 2], other: [u64; 2]) -> [u64; 2]
-    ensures { (x : ℕ) → x < 128 → row_bit result x ≡ (row_bit set x && row_bit other x) }
-{
-    [set[0] & other[0], set[1] & other[1]]
+impl BitOr for ByteSet {
+    type Output = ByteSet;
+
+    ghost bitor_gives = { λ set other result. Both set.words other.words result.words };
+
+    fn bitor(self, other: ByteSet) -> ByteSet {
+        let [low, high] = self.words;
+        ByteSet {
+            words: [low | other.words[0], high | other.words[1]],
+        }
+    }
 }
 
-// The lowest bit of a word, from one on, that is set, or 64.
-fn next_bit(word: u64, from: u32) -> u32
-    requires { from < 64 }
+/// The bytes of strings in a set, ascending from one on.
+#[derive(Drop)]
+pub(crate) struct Bytes {
+    set: ByteSet,
+    from: u8,
+}
+
+impl Iterator for Bytes {
+    type Item = u8;
+
+    ghost next_gives = { λ s r t. NextByte s.set.words s.from r × (t.set ≡ s.set) × IfSome r (λ b. t.from ≡ b + 1) };
+
+    ghost remaining = { λ s. at_most (127 - s.from) };
+
+    fn next(&mut self) -> Option<u8> {
+        let b = self.set.next_byte(self.from)?;
+        self.from = b + 1;
+        Some(b)
+    }
+}
+
+/// The lowest bit of a word, from one on, that is set.
+pub(crate) fn next_bit(word: u64, from: u32) -> Option<u32>
     ensures { NextBit word from result }
 {
-    let left = word >> from;
+    let left = word.checked_shr(from)?;
     if left == 0 {
-        return 64;
+        None
+    } else {
+        Some(from + left.trailing_zeros())
     }
-    from + u64::trailing_zeros(left)
-}
-
-// The lowest byte of a set from one on, or 127: by the second word, which begins with byte 64.
-fn next_high(set: [u64; 2], from: u8) -> u8
-    requires { (64 ≤ from) × (from ≤ 127) }
-    ensures { NextByte set from result }
-{
-    let bit = next_bit(set[1], (from - 64) as u32);
-    if 63 <= bit {
-        return 127;
-    }
-    64 + bit as u8
-}
-
-// The lowest byte of a set from one on, or 127.
-pub(crate) fn next_byte(set: [u64; 2], from: u8) -> u8
-    requires { from ≤ 127 }
-    ensures { NextByte set from result }
-{
-    if 64 <= from {
-        return next_high(set, from);
-    }
-    let bit = next_bit(set[0], from as u32);
-    if bit < 64 {
-        return bit as u8;
-    }
-    next_high(set, 64)
 }
 
 // The bytes to try where these are named: they and the lowest that is not, without those that follow others.
-pub(crate) fn bytes_to_try(named: [u64; 2], followers: [u64; 2]) -> [u64; 2]
-    ensures { ToTry named followers result }
+pub(crate) fn bytes_to_try(named: ByteSet, followers: ByteSet) -> ByteSet
+    ensures { ToTry named.words followers.words result.words }
 {
-    let unnamed = others(named);
-    let lowest = next_byte(unnamed, FIRST_BYTE);
-    let more = with_byte(named, lowest as u64);
-    let free = others(followers);
-    common(more, free)
+    let unnamed = !named;
+    let tried = match unnamed.bytes().next() {
+        Some(lowest) => named.with(lowest),
+        None => named,
+    };
+    tried & !followers
 }

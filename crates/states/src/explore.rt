@@ -3,22 +3,24 @@ ghost use Rattle.std.specs.Prelude.{◌≡◌, ◌+◌, ◌*◌, ◌<◌};
 ghost use Rattle.states.specs.Machinery.Rows.{IsByte, codes_laid, row_at};
 ghost use Rattle.states.specs.Machinery.Search.{Searchable, Enough, Partial, Searched, Explores};
 
-use crate::bytes::{bytes_to_try, next_byte};
-use crate::limits::{CODES, FIRST_BYTE, FOLLOWERS, KEYS, LAST_BYTE, MOST_STATES, STARS, TAKEN_ROW};
+use crate::bytes::{ByteSet, bytes_to_try};
+use crate::limits::{CODES, FOLLOWERS, KEYS, MOST_STATES, STARS, TAKEN_ROW};
 use crate::named::name_positions;
 use crate::rows::{find_row, put_row, row_at};
 use matching::state::first_state;
 use matching::words::{ahead_of, step_words};
 
 // The bytes to try from a row: every other one leads where a smaller one leads.
-fn bytes_from(words: &[u64], positions: usize, row: [u64; 8]) -> [u64; 2]
+fn bytes_from(words: &[u64], positions: usize, row: [u64; 8]) -> ByteSet
     requires { Searchable positions words.now }
-    ensures { Enough (codes_laid positions words.now) row result }
+    ensures { Enough (codes_laid positions words.now) row result.words }
 {
     let ahead = ahead_of(row);
     let used = (positions + 63) / 64;
     let named = name_positions(words, ahead, used);
-    let followers = [words[FOLLOWERS], words[FOLLOWERS + 1]];
+    let followers = ByteSet {
+        words: [words[FOLLOWERS], words[FOLLOWERS + 1]],
+    };
     bytes_to_try(named, followers)
 }
 
@@ -62,12 +64,9 @@ fn try_bytes(words: &mut [u64], positions: usize, i: usize, n: usize) -> Option<
     ensures { Searched positions words.old words.new n ((i + 1) * 128) result }
 {
     let from = row_at(words, i);
-    let bytes = bytes_from(words, positions, from);
     let mut found = n;
-    let mut b = next_byte(bytes, FIRST_BYTE);
-    while b <= LAST_BYTE {
+    for b in bytes_from(words, positions, from).bytes() {
         found = try_step(words, positions, i, from, b, found)?;
-        b = next_byte(bytes, b + 1);
     }
     Some(found)
 }
@@ -82,6 +81,7 @@ pub fn explore(words: &mut [u64], positions: usize) -> Option<usize>
     put_row(words, 0, first);
     let mut n: usize = 1;
     let mut row: usize = 0;
+    // stays: no plainer: n grows on the way, which a range would not see
     while row < n {
         n = try_bytes(words, positions, row, n)?;
         row += 1;

@@ -1,5 +1,5 @@
 -- Sets of bytes as rows of two words: what is put into them, what is looked for in them, and which bytes are tried from a state.
-use Rattle.std.specs.Prelude.{ℕ, ◌+◌, ◌≤◌, ◌<◌, ◌≡◌, Bool, true, false, ◌||◌, List, ◌⊎◌, get_or}
+use Rattle.std.specs.Prelude.{ℕ, ◌+◌, ◌≤◌, ◌<◌, ◌≡◌, Bool, true, false, not, ◌&&◌, ◌||◌, List, ◌⊎◌, Option, None, Some, get_or}
 use Rattle.matching.specs.Machinery.Codes.{takes_byte}
 use Rattle.matching.specs.Machinery.Rows.{word_bit, row_bit}
 use Rattle.states.specs.Machinery.Rows.{codes_at, IsByte}
@@ -8,19 +8,39 @@ use Rattle.states.specs.Machinery.Rows.{codes_at, IsByte}
 abbrev pub Adds : List ℕ → (ℕ → Bool) → List ℕ → Type 0
 Adds set f r = (x : ℕ) → x < 128 → row_bit r x ≡ (row_bit set x || f x)
 
--- r is the lowest bit of a word, from one on, that is set, or 64
-pub record NextBit (word from r : ℕ) : Type 0 where
-  pub low : from ≤ r
-  pub high : r ≤ 64
-  pub between : (k : ℕ) → from ≤ k → k < r → word_bit word k ≡ false
-  pub here : r < 64 → word_bit word r ≡ true
+-- a set has the bytes of which f holds, and no others
+abbrev pub SetOf : (ℕ → Bool) → List ℕ → Type 0
+SetOf f r = (x : ℕ) → x < 128 → row_bit r x ≡ f x
 
--- r is the lowest byte of a set from one on, or 127
-pub record NextByte (set : List ℕ) (from r : ℕ) : Type 0 where
+-- a set has the bytes that another has not; those that two have both; those that one of two has
+abbrev pub Others : List ℕ → List ℕ → Type 0
+Others set r = (x : ℕ) → x < 128 → row_bit r x ≡ not (row_bit set x)
+
+abbrev pub Common : List ℕ → List ℕ → List ℕ → Type 0
+Common one two r = (x : ℕ) → x < 128 → row_bit r x ≡ (row_bit one x && row_bit two x)
+
+abbrev pub Both : List ℕ → List ℕ → List ℕ → Type 0
+Both one two r = (x : ℕ) → x < 128 → row_bit r x ≡ (row_bit one x || row_bit two x)
+
+-- r is the lowest number from one on, and below a bound, of which f holds
+pub record Lowest (f : ℕ → Bool) (from bound r : ℕ) : Type 0 where
   pub low : from ≤ r
-  pub high : r ≤ 127
-  pub between : (x : ℕ) → from ≤ x → x < r → row_bit set x ≡ false
-  pub here : r < 127 → row_bit set r ≡ true
+  pub high : r < bound
+  pub between : (k : ℕ) → from ≤ k → k < r → f k ≡ false
+  pub here : f r ≡ true
+
+-- it is the answer, or there is none
+abbrev pub Next : (ℕ → Bool) → ℕ → ℕ → Option ℕ → Type 0
+Next f from bound None = (k : ℕ) → from ≤ k → k < bound → f k ≡ false
+Next f from bound (Some r) = Lowest f from bound r
+
+-- the lowest bit of a word, from one on, that is set
+abbrev pub NextBit : ℕ → ℕ → Option ℕ → Type 0
+NextBit word from r = Next (word_bit word) from 64 r
+
+-- the lowest byte of a set, from one on, that is no more than the last byte of strings
+abbrev pub NextByte : List ℕ → ℕ → Option ℕ → Type 0
+NextByte set from r = Next (row_bit set) from 127 r
 
 -- a byte that is not to be tried follows another; or it is not named, and neither is a smaller one
 abbrev pub ToTry : List ℕ → List ℕ → List ℕ → Type 0

@@ -14,6 +14,6 @@ loop-i-preserved c =
     below_more (λ j. row_at words j ≡ a.row → ⊥) i c.loop-i.invariant
     (λ same.
     elim c.else-words-i.branch [
-      else-words-i-via-then-words-i+else-is_row w ↦ search rules
-    | else-words-i-via-else-words-i w ↦ w.if-words-i.false (sym (row_word words i word c.telling_word-word.ensures) ∙ ap (λ (row : List ℕ). get_or row word 0) same)
+      | else-words-i-via-then-words-i+else-is_row w ↦ search rules
+      | else-words-i-via-else-words-i w ↦ w.if-words-i.false (sym (row_word words i word c.telling_word-word.ensures) ∙ ap (λ (row : List ℕ). get_or row word 0) same)
     ])

@@ -1,15 +1,15 @@
 -- The two words of the set are laid down.
-use native.Mathlib.Omega.{arith}
-use lib.ListN.{get_or, length-set}
+use Rattle.std.proofs.Common.{sym, ap, ◌∙◌, subst, arith}
+use borrow.Rule.Slice.PartMut.{put_mid}
+use Rattle.states.specs.Machinery.Taken.{FollowersSet}
+use Rattle.states.proofs.Parts.{put_mid-sets}
 use Rattle.states.proofs.TakenRows.{followers-set}
 use Rattle.states.proofs.taken.lay_followers.Goals as goal
 
-pub bounds-words : goal.bounds-words
-bounds-words c =
-    let a = c.args in
-    omega (arith, c.requires, length-set a.words.now 5880 (get_or c.followers_of-set.result 0 0))
-
 pub returns : goal.returns
 returns c =
-    let a = c.args in
-    followers-set a.words.now c.followers_of-set.result c.requires (omega arith) c.followers_of-set.ensures
+    let words = c.args.words.now in
+    let set = c.followers_of-set.result.words in
+    subst (FollowersSet words)
+    (sym (ap (put_mid 5880 2 words) c.copy_from_slice.ensures.after ∙ put_mid-sets words set 5880 2 (omega arith) (omega arith)))
+    (followers-set words set c.requires (omega arith) c.followers_of-set.ensures)

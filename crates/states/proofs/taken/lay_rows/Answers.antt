@@ -1,9 +1,6 @@
-use Prim.Native.Nat.{◌+◌}
-use mathlib.Core.Path.{refl, ◌∙◌}
-use native.Mathlib.Omega.{arith}
-use lib.ListN.{get_or}
+use Rattle.std.proofs.Common.{◌+◌, arith, get_or}
 use Rattle.states.specs.Machinery.Rows.{codes_at, codes_laid}
-use Rattle.states.proofs.TakenRows.{with_rows, cleared-length, rows-begin, rows_start, rows_next, rows_end, rows_whole, code_read}
+use Rattle.states.proofs.TakenRows.{with_rows, rows-begin, rows_start, rows_next, rows_end, rows_whole, code_read}
 use Rattle.states.proofs.taken.lay_rows.Goals as goal
 
 pub loop-p-init : goal.loop-p-init
@@ -11,23 +8,15 @@ loop-p-init c =
     let a = c.args in
     let words = a.words.now in
     let cleared = with_rows words c.clear.new.words in
-    (omega arith, refl, rows_start (codes_laid a.positions cleared) words cleared (rows-begin (codes_laid a.positions cleared) words c.clear.new.words c.requires.1 c.clear.ensures))
+    rows_start (codes_laid a.positions cleared) words cleared (rows-begin (codes_laid a.positions cleared) words c.clear.new.words c.requires.1 c.clear.ensures)
 
 pub loop-p-preserved : goal.loop-p-preserved
 loop-p-preserved c =
     let a = c.args in
     let l = c.loop-p in
-    let cleared = with_rows a.words.now c.clear.new.words in (
-      omega arith,
-      c.mark_code.auto.words ∙ l.invariant.1,
-      rows_next (codes_laid a.positions cleared) cleared l.words c.mark_code.new.words l.p (get_or l.words (codes_at + l.p) 0) (omega arith)
-          (code_read a.positions cleared l.words l.p c.requires.0 (omega arith) l.invariant.2.front) l.invariant.2 c.mark_code.ensures,
-    )
-
-pub shape_of-words : goal.shape_of-words
-shape_of-words c =
-    let a = c.args in
-    c.loop-p.invariant.1 ∙ cleared-length a.words.now c.clear.new.words c.requires.1 c.clear.ensures
+    let cleared = with_rows a.words.now c.clear.new.words in
+    rows_next (codes_laid a.positions cleared) cleared l.words c.mark_code.new.words l.p (get_or l.words (codes_at + l.p) 0) (omega arith)
+    (code_read a.positions cleared l.words l.p c.requires.0 (omega arith) l.invariant.front) l.invariant c.mark_code.ensures
 
 pub returns : goal.returns
 returns c =
@@ -37,4 +26,4 @@ returns c =
     let part = c.clear.new.words in
     let cleared = with_rows words part in
     rows_whole a.positions words cleared l.words c.requires.0 (rows-begin (codes_laid a.positions cleared) words part c.requires.1 c.clear.ensures)
-    (rows_end a.positions cleared cleared l.words l.p (omega arith) l.invariant.2)
+    (rows_end a.positions cleared cleared l.words l.p (omega arith) l.invariant)

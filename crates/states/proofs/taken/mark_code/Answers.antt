@@ -1,33 +1,45 @@
--- By the cases of the code.
-use Prim.Native.Nat.{◌-◌, ◌/◌}
-use mathlib.Core.Path.{sym, ◌∙◌}
-use mathlib.Core.Bool.{true}
-use native.Mathlib.Omega.{arith}
-use lib.Dec.{eqb}
-use Rattle.matching.specs.Symbols.{fold_byte}
-use Rattle.states.specs.Machinery.Taken.{takes}
-use Rattle.states.proofs.MarkedBytes.{marks-none, marks-as}
-use Rattle.states.proofs.CodeBytes.{names-none, names-exact, names-folded, takes_all, takes-named}
+use Rattle.std.proofs.Common.{ℕ, ◌+◌, List, refl, ap, sym, ◌∙◌, subst, arith}
+use Rattle.states.specs.declared.bytes.ByteSet.{ByteSet}
+use Rattle.states.specs.declared.bytes.Bytes.{Bytes}
+use Rattle.states.specs.Machinery.Bytes.{SetOf}
+use Rattle.states.specs.Machinery.Taken.{marked_at, takes, Marks}
+use Rattle.states.proofs.MarkedBytes.{below_in, marks_begin, marks_skip, marks_more, marks_end}
 use Rattle.states.proofs.taken.mark_code.Goals as goal
 
-pub returns-then-code-eq-BEHIND_ONE : goal.returns-then-code-eq-BEHIND_ONE
-returns-then-code-eq-BEHIND_ONE c =
+pub loop-b-init : goal.loop-b-init
+loop-b-init c =
     let a = c.args in
-    marks-as a.words.now c.mark_all.new.words a.p (λ x. true) (takes a.code) c.mark_all.ensures (λ x byte. takes_all a.code x c.if-code-eq-BEHIND_ONE.true)
+    let first = ap (λ (s : Bytes). s.from) c.into_iter-b-iterator.ensures.into_iter_gives ∙ c.bytes-b-items.ensures.from in
+    record {
+      set = refl;
+      low = omega arith;
+      marks = marks_begin a.words.now a.p c.into_iter-b-iterator.result.set.words c.into_iter-b-iterator.result.from (omega arith);
+    }
 
-pub returns-then-code-lt4 : goal.returns-then-code-lt4
-returns-then-code-lt4 c =
+pub loop-b-preserved : goal.loop-b-preserved
+loop-b-preserved c =
     let a = c.args in
-    marks-none a.words.now a.p (takes a.code) (λ x byte. sym (takes-named a.code x c.if-code-eq-BEHIND_ONE.false) ∙ names-none a.code x (omega arith))
-
-pub returns-then-code-eq0 : goal.returns-then-code-eq0
-returns-then-code-eq0 c =
-    let a = c.args in
-    marks-as a.words.now c.mark_byte.new.words a.p (λ x. eqb x (a.code / 2 - 2)) (takes a.code) c.mark_byte.ensures
-    (λ x byte. names-exact a.code x (omega arith) c.if-code-eq0.true ∙ takes-named a.code x (λ w. omega arith))
+    let l = c.loop-b in
+    let set = l.b-iterator.set.words in
+    let b = c.in-Some.b in
+    let next = c.in-Some.ensures.steps in
+    let up = next.0.low in
+    let high = next.0.high in
+    let skipped = marks_skip a.words.now l.words a.p set l.b-iterator.from l.invariant.marks b up next.0.between in
+    let marked = marks_more a.words.now l.words a.p set b skipped high (omega (arith, l.invariant.low)) c.requires.0 (omega (arith, c.requires.1, l.auto.words)) next.0.here in
+    record {
+      set = next.1 ∙ l.invariant.set;
+      low = omega (arith, next.2, l.invariant.low);
+      marks =
+          subst (λ (from : ℕ). Marks a.words.now c.mark_at.new.words a.p (below_in c.next.new.self.set.words from)) (sym next.2)
+          (subst (λ (s : ByteSet). Marks a.words.now c.mark_at.new.words a.p (below_in s.words (b + 1))) (sym next.1)
+          (subst (λ (w : List ℕ). Marks a.words.now w a.p (below_in set (b + 1))) (sym (c.mark_at.ensures ∙ ap (λ (x : ℕ). marked_at l.words (607 + x) a.p) c.from.ensures)) marked));
+    }
 
 pub returns : goal.returns
 returns c =
     let a = c.args in
-    marks-as a.words.now c.mark_folded.new.words a.p (λ x. eqb (fold_byte x) (a.code / 2 - 2)) (takes a.code) c.mark_folded.ensures
-    (λ x byte. names-folded a.code x (omega arith) c.if-code-eq0.false ∙ takes-named a.code x (λ w. omega arith))
+    let l = c.loop-b in
+    let set = l.invariant.set ∙ ap (λ (s : Bytes). s.set) c.into_iter-b-iterator.ensures.into_iter_gives ∙ c.bytes-b-items.ensures.set in
+    marks_end a.words.now l.words a.p l.b-iterator.set.words l.b-iterator.from l.invariant.marks (takes a.code)
+    (subst (λ (s : ByteSet). SetOf (takes a.code) s.words) (sym set) c.taken_by.ensures) c.in-None.ensures.steps.0

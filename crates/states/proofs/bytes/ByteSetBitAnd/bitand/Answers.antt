@@ -1,17 +1,15 @@
 -- Word by word and bit by bit.
-use mathlib.Core.Path.{◌∙◌, ap₂}
-use mathlib.Core.Bool.{◌&&◌}
+use Rattle.std.proofs.Common.{◌∙◌, ap₂, get_or, ◌&&◌}
 use lib.Bits.{bit_and}
-use lib.ListN.{get_or}
 use Rattle.matching.specs.Machinery.Rows.{row_bit}
 use Rattle.states.proofs.BitsOfWords.{bit-and}
 use Rattle.states.proofs.ByteSets.{two-words, low_bit, high_bit}
-use Rattle.states.proofs.bytes.common.Goals as goal
+use Rattle.states.proofs.bytes.ByteSetBitAnd.bitand.Goals as goal
 
 pub returns : goal.returns
 returns c =
-    let row = c.args.set in
-    let other = c.args.other in
+    let row = c.args.self.words in
+    let other = c.args.other.words in
     two-words (bit_and (get_or row 0 0) (get_or other 0 0)) (bit_and (get_or row 1 0) (get_or other 1 0)) (λ x. row_bit row x && row_bit other x)
     (λ k low. bit-and (get_or row 0 0) (get_or other 0 0) k ∙ ap₂ ◌&&◌ (low_bit row k low) (low_bit other k low))
     (λ k low. bit-and (get_or row 1 0) (get_or other 1 0) k ∙ ap₂ ◌&&◌ (high_bit row k low) (high_bit other k low))

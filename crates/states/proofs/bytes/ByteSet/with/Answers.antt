@@ -1,25 +1,23 @@
 -- The bit of the byte is set in its word; a number over 127 is no byte.
-use Prim.Native.Nat.{ℕ, ◌*◌, ◌/◌, ◌%◌, ◌^◌}
-use mathlib.Core.Path.{◌≡◌, sym, ap, ◌∙◌, subst}
+use Rattle.std.proofs.Common.{◌≡◌, ℕ, ◌*◌, ◌/◌, ◌%◌, ◌^◌, sym, ap, ◌∙◌, subst, arith, get_or, set, eqb}
 use native.Mathlib.Nat.{one-mul, mod-eq_of_lt}
-use native.Mathlib.Omega.{arith}
 use lib.Bits.{bit_or}
-use lib.Dec.{eqb}
-use lib.ListN.{get_or, set}
 use lib.Pow.{pow-lt}
 use borrow.Author.Tests.{ne_eqb}
 use Rattle.states.specs.Machinery.Bytes.{Adds}
 use Rattle.states.proofs.ByteSets.{adds-byte, adds_none}
-use Rattle.states.proofs.bytes.with_byte.Goals as goal
+use Rattle.states.proofs.bytes.ByteSet.with.Goals as goal
 
 pub returns-then-b-gt127 : goal.returns-then-b-gt127
 returns-then-b-gt127 c =
     let a = c.args in
-    adds_none a.set (λ x. eqb x a.b) (λ x few. ne_eqb x a.b (λ w. omega arith))
+    adds_none a.self.words (λ x. eqb x a.b) (λ x few. ne_eqb x a.b (λ w. omega arith))
 
 pub returns : goal.returns
 returns c =
     let a = c.args in
+    let row = a.self.words in
     let fits : 1 * 2 ^ (a.b % 64) % 2 ^ 64 ≡ 2 ^ (a.b % 64) = ap (λ (n : ℕ). n % 2 ^ 64) (one-mul (2 ^ (a.b % 64))) ∙ mod-eq_of_lt (pow-lt {i = a.b % 64} {j = 64} (omega arith)) in
-    subst (λ (n : ℕ). Adds a.set (λ x. eqb x a.b) (set a.set (a.b / 64) (bit_or (get_or a.set (a.b / 64) 0) n))) (sym fits)
-    (adds-byte a.set a.b (omega (arith, c.well_formed.0.1.0.1)) (omega arith))
+    subst (λ (i : ℕ). Adds row (λ x. eqb x a.b) (set row i (bit_or (get_or row i 0) (1 * 2 ^ (a.b % 64) % 2 ^ 64)))) (sym c.from.ensures)
+    (subst (λ (n : ℕ). Adds row (λ x. eqb x a.b) (set row (a.b / 64) (bit_or (get_or row (a.b / 64) 0) n))) (sym fits)
+    (adds-byte row a.b (omega arith) (omega arith)))
