@@ -1,10 +1,5 @@
 -- What the reader of members finds is what is said of the document.
-use Prim.Native.Nat.{ℕ, suc, ◌≤◌}
-use mathlib.Core.Path.{◌≡◌, refl, sym, ◌∙◌, ap, subst}
-use mathlib.Core.List.{List, [], ◌∷◌}
-use mathlib.Core.Bool.{false}
-use native.Mathlib.Omega.{arith}
-use lib.ListN.{length}
+use Rattle.std.proofs.Common.{ℕ, suc, ◌≤◌, ◌≡◌, refl, sym, ◌∙◌, ap, subst, List, [], ◌∷◌, false, arith, length}
 use Rattle.json_text.specs.Grammar.{Text}
 use Rattle.json_text.specs.Trees.{tree_of}
 use Rattle.json_text.specs.Machinery.Tokens.{Token}

@@ -1,6 +1,5 @@
 -- Documents with their faults, worked out by hand; a place here is a number that falls along the text.
-use mathlib.Core.Path.{◌≡◌, refl}
-use mathlib.Core.List.{[], ◌++◌}
+use Rattle.std.proofs.Common.{◌≡◌, refl, [], ◌++◌}
 use Rattle.json_text.specs.Texts.{ascii}
 use Rattle.json_text.specs.Trees.{Tree}
 use Rattle.json_text.specs.Trees.Shape.{one, named}

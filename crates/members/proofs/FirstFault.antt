@@ -1,9 +1,5 @@
 -- What the verdict on a document names is the first of its faults.
-use Prim.Native.Nat.{ℕ}
-use mathlib.Core.Path.{◌≡◌, refl, sym, ◌∙◌, ap}
-use mathlib.Core.Bool.{Bool, true, false, ◌&&◌, ◌||◌}
-use mathlib.Core.List.{List, [], ◌∷◌, ◌++◌}
-use lib.Dec.{eqb, leb}
+use Rattle.std.proofs.Common.{ℕ, ◌≡◌, refl, sym, ◌∙◌, ap, Bool, true, false, ◌&&◌, ◌||◌, List, [], ◌∷◌, ◌++◌, eqb, leb}
 use Rattle.json_text.specs.Choice.{pick, same_bytes}
 use Rattle.json_text.specs.Texts.{ascii}
 use Rattle.json_text.specs.Trees.{Tree}

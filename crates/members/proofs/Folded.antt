@@ -1,11 +1,5 @@
 -- A string compared with a name in small letters, one byte after the other.
-use Rattle.std.proofs.Common.{Option, Some, None, is_some, not}
-use Prim.Native.Nat.{ℕ, ◌+◌, ◌≤◌, ◌<◌}
-use mathlib.Core.Path.{◌≡◌, refl}
-use mathlib.Core.Bool.{Bool, true, false}
-use mathlib.Core.List.{List, map}
-use lib.ListN.{length, get_or, drop, drop_of_length-le}
-use borrow.Author.Tests.{eq-eqb, ne_eqb}
+use Rattle.std.proofs.Common.{Option, Some, None, is_some, not, ℕ, ◌+◌, ◌≤◌, ◌<◌, ◌≡◌, refl, Bool, true, false, List, map, length, get_or, drop, drop_of_length-le, eq-eqb, ne_eqb}
 use Rattle.json_text.specs.Choice.{same_bytes}
 use Rattle.json_text.specs.Machinery.Pieces.{piece_of, content_of}
 use Rattle.json_text.specs.declared.pieces.Piece.{Piece}

@@ -1,12 +1,8 @@
 -- The bits of a mask are the list of the members that were met.
-use Prim.Native.Nat.{ℕ, zero, suc, ◌+◌, ◌*◌, ◌/◌, ◌%◌, ◌^◌, ◌<◌, max}
-use mathlib.Core.Path.{◌≡◌, sym, ◌∙◌, ap}
-use mathlib.Core.Bool.{false, ◌||◌}
-use mathlib.Core.List.{List, [], ◌∷◌}
-use native.Mathlib.Nat.{pow-succ', div-one, zero-div, div-div-eq-div-mul}
-use native.Mathlib.Omega.{arith}
-use lib.Bits.{bit_or, or_step, or_shr, or_comm}
-use lib.Dec.{eqb, eqb-zero-suc, eqb-suc-zero, eqb-suc-suc}
+use Rattle.std.proofs.Common.{ℕ, zero, suc, ◌+◌, ◌*◌, ◌/◌, ◌%◌, ◌^◌, ◌<◌, max, ◌≡◌, sym, ◌∙◌, ap, false, ◌||◌, List, [], ◌∷◌, div-one, arith, bit_or, eqb}
+use native.Mathlib.Nat.{pow-succ', zero-div, div-div-eq-div-mul}
+use lib.Bits.{or_step, or_shr, or_comm}
+use lib.Dec.{eqb-zero-suc, eqb-suc-zero, eqb-suc-suc}
 use Rattle.members.specs.Machinery.Verdicts.{is_seen, add}
 use Rattle.members.specs.Faults.{among}
 

@@ -1,10 +1,5 @@
 -- The pass over the tokens: one token, and what it leads to.
-use Rattle.std.proofs.Common.{Some}
-use Prim.Native.Nat.{ℕ, ◌+◌, ◌-◌, ◌<◌}
-use mathlib.Core.Path.{◌≡◌, refl, sym, ◌∙◌, ap}
-use mathlib.Core.List.{List, []}
-use lib.ListN.{length, drop}
-use native.Mathlib.Omega.{arith}
+use Rattle.std.proofs.Common.{Some, ℕ, ◌+◌, ◌-◌, ◌<◌, ◌≡◌, refl, sym, ◌∙◌, ap, List, [], length, drop, arith}
 use Rattle.json_text.specs.Machinery.Pieces.{content_of}
 use Rattle.json_text.specs.Machinery.Tokens.{Token, mark}
 use Rattle.json_text.specs.Machinery.Marks.{tokens_at, met_tokens}

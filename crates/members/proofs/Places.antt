@@ -1,8 +1,5 @@
 -- The places of a text's tree: they lie in the text and come in its order.
-use Prim.Native.Nat.{ℕ, suc, ◌≤◌, ◌<◌}
-use mathlib.Core.List.{List}
-use lib.ListN.{length}
-use native.Mathlib.Omega.{arith}
+use Rattle.std.proofs.Common.{ℕ, suc, ◌≤◌, ◌<◌, List, length, arith}
 use Rattle.json_text.specs.Grammar.{Characters, Digits, SomeDigits, Whole, Fraction, Power, Unsigned, Part, Reads}
 use Rattle.json_text.specs.Trees.{Shape, Tree, Made, tree_of}
 use Rattle.json_text.specs.Trees.Tree.{text, other, list, object, end_list, element, end_object, member}

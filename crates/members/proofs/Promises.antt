@@ -1,9 +1,6 @@
 -- What is promised of a document's faults, in statements that can be read without their proofs. What the reader answers is in `policy`'s
 -- promises.
-use Prim.Native.Nat.{ℕ}
-use mathlib.Core.Path.{◌≡◌, refl, sym, ◌∙◌, ap}
-use mathlib.Core.List.{List}
-use native.Mathlib.Omega.{arith}
+use Rattle.std.proofs.Common.{ℕ, ◌≡◌, refl, sym, ◌∙◌, ap, List, arith}
 use Rattle.members.specs.Faults.{MemberFault, Decides}
 use Rattle.members.specs.Answers.{Checked}
 use Rattle.members.specs.Answers.{Checked as C}
