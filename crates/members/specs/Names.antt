@@ -1,5 +1,7 @@
 -- The names that code gives to members, operators and keys, by their indices in the lists of names.
-use Rattle.std.specs.Prelude.{ℕ, suc, Option, Some, None}
+use Rattle.std.specs.Prelude.{ℕ, suc, ◌≡◌, false, eqb, Option, Some, None}
+use mathlib.Core.Path.{refl}
+use Rattle.members.specs.Members.{row_slot}
 use Rattle.members.specs.declared.names.TopName.{TopName}
 use Rattle.members.specs.declared.names.TopName.TheVariants as T
 use Rattle.members.specs.declared.names.RowName.{RowName}
@@ -54,3 +56,15 @@ index_of_key K.Prefix = 1
 index_of_key K.SourceVpce = 2
 index_of_key K.Referer = 3
 index_of_key K.SourceIp = 4
+
+-- no member of a statement counts as what is none
+pub row_apart : (name : RowName) → eqb (row_slot 0) (row_slot (suc (index_of_row name))) ≡ false
+row_apart R.Sid = refl
+row_apart R.Effect = refl
+row_apart R.Principal = refl
+row_apart R.NotPrincipal = refl
+row_apart R.Action = refl
+row_apart R.NotAction = refl
+row_apart R.Resource = refl
+row_apart R.NotResource = refl
+row_apart R.Condition = refl

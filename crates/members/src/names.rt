@@ -1,8 +1,9 @@
 // Which member, operator or key a string names.
-ghost use Rattle.std.specs.Prelude.{◌≡◌, ◌<◌, ℕ, suc, List, drop};
+ghost use Rattle.std.specs.Prelude.{◌≡◌, ◌<◌, ℕ, suc, false, List, eqb, drop};
 ghost use Rattle.json_text.specs.Machinery.Pieces.{content_of};
 ghost use Rattle.members.specs.Members.{top_kind, row_kind, aws_kind, operator_kind, key_kind, row_slot, itself};
-ghost use Rattle.members.specs.Names.{kind_in, index_of_top, index_of_row, index_of_aws, index_of_operator, index_of_key};
+ghost use Rattle.members.specs.Names.{kind_in, index_of_top, index_of_row, index_of_aws, index_of_operator, index_of_key, row_apart};
+ghost use lib.Dec.{eqb-zero-suc};
 
 use crate::folding::string_is_folded;
 use json_text::pieces::string_is;
@@ -78,6 +79,9 @@ pub trait Name: Copy {
     fn slot(self) -> u8
         ensures value { result ≡ slot_of (suc (index self)) }
         ensures small { result < 16 };
+
+    // None counts as what is no name.
+    ghost apart: { (name : Self) → eqb (slot_of 0) (slot_of (suc (index name))) ≡ false };
 }
 
 impl Name for TopName {
@@ -86,6 +90,7 @@ impl Name for TopName {
     ghost kind_of = { top_kind };
 
     ghost slot_of = { itself };
+    ghost apart = { λ name. eqb-zero-suc _ };
 
     fn named(text: &[u8], from: usize) -> Option<TopName> {
         top_name(text, from)
@@ -102,6 +107,7 @@ impl Name for RowName {
     ghost kind_of = { row_kind };
 
     ghost slot_of = { row_slot };
+    ghost apart = { row_apart };
 
     fn named(text: &[u8], from: usize) -> Option<RowName> {
         row_name(text, from)
@@ -126,6 +132,7 @@ impl Name for AwsName {
     ghost kind_of = { aws_kind };
 
     ghost slot_of = { itself };
+    ghost apart = { λ name. eqb-zero-suc _ };
 
     fn named(text: &[u8], from: usize) -> Option<AwsName> {
         aws_name(text, from)
@@ -142,6 +149,7 @@ impl Name for OperatorName {
     ghost kind_of = { operator_kind };
 
     ghost slot_of = { itself };
+    ghost apart = { λ name. eqb-zero-suc _ };
 
     fn named(text: &[u8], from: usize) -> Option<OperatorName> {
         operator_name(text, from)
@@ -158,6 +166,7 @@ impl Name for KeyName {
     ghost kind_of = { key_kind };
 
     ghost slot_of = { itself };
+    ghost apart = { λ name. eqb-zero-suc _ };
 
     fn named(text: &[u8], from: usize) -> Option<KeyName> {
         key_name(text, from)
