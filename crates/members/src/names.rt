@@ -90,6 +90,7 @@ impl Name for TopName {
     ghost kind_of = { top_kind };
 
     ghost slot_of = { itself };
+
     ghost apart = { λ name. eqb-zero-suc _ };
 
     fn named(text: &[u8], from: usize) -> Option<TopName> {
@@ -107,6 +108,7 @@ impl Name for RowName {
     ghost kind_of = { row_kind };
 
     ghost slot_of = { row_slot };
+
     ghost apart = { row_apart };
 
     fn named(text: &[u8], from: usize) -> Option<RowName> {
@@ -132,6 +134,7 @@ impl Name for AwsName {
     ghost kind_of = { aws_kind };
 
     ghost slot_of = { itself };
+
     ghost apart = { λ name. eqb-zero-suc _ };
 
     fn named(text: &[u8], from: usize) -> Option<AwsName> {
@@ -149,6 +152,7 @@ impl Name for OperatorName {
     ghost kind_of = { operator_kind };
 
     ghost slot_of = { itself };
+
     ghost apart = { λ name. eqb-zero-suc _ };
 
     fn named(text: &[u8], from: usize) -> Option<OperatorName> {
@@ -166,6 +170,7 @@ impl Name for KeyName {
     ghost kind_of = { key_kind };
 
     ghost slot_of = { itself };
+
     ghost apart = { λ name. eqb-zero-suc _ };
 
     fn named(text: &[u8], from: usize) -> Option<KeyName> {

@@ -1,12 +1,6 @@
 -- The networks that a document wishes for have addresses of 32 bits.
 use Prim.{tt}
-use Prim.Native.Nat.{ℕ, zero, suc, ◌+◌, ◌*◌, ◌-◌, ◌^◌, ◌≤◌, ◌<◌}
-use mathlib.Core.Bool.{Bool, true, false}
-use mathlib.Core.Path.{◌≡◌, refl}
-use mathlib.Core.List.{List, [], ◌∷◌}
-use native.Mathlib.Omega.{arith}
-use lib.Dec.{eqb, leb}
-use borrow.Author.Tests.{leb-true}
+use Rattle.std.proofs.Common.{ℕ, zero, suc, ◌+◌, ◌*◌, ◌-◌, ◌^◌, ◌≤◌, ◌<◌, Bool, true, false, ◌≡◌, refl, List, [], ◌∷◌, arith, eqb, leb, leb-true}
 use Rattle.json_text.specs.Choice.{pick}
 use Rattle.json_text.specs.Bytes.{is_digit}
 use Rattle.json_text.specs.Trees.{Tree}

@@ -1,8 +1,5 @@
 -- The strings of an element and the wishes of conditions: one token of the walk.
-use Prim.Native.Nat.{ℕ, ◌+◌, ◌-◌}
-use mathlib.Core.Path.{◌≡◌, refl, sym, ◌∙◌, ap}
-use mathlib.Core.List.{List, ◌∷◌}
-use lib.ListN.{length, drop}
+use Rattle.std.proofs.Common.{ℕ, ◌+◌, ◌-◌, ◌≡◌, refl, sym, ◌∙◌, ap, List, ◌∷◌, length, drop}
 use Rattle.json_text.specs.Machinery.Pieces.{content_of}
 use Rattle.json_text.specs.Machinery.Tokens.{Token, mark}
 use Rattle.json_text.specs.declared.events.Event.{Event}
@@ -40,7 +37,6 @@ module _ (t : List ℕ) (r : List Wish) (ts : List Token) (at : ℕ) where
   after_heard Hd.Gone = r
 
   hears-one : (e : Event) (h : Hold) → values_from So.Text r (tokens e) (hold_of t h) ≡ after_heard (hold_turn h e at)
-  hears-one E.Nothing h = refl
   hears-one E.Name h = refl
   hears-one E.Text H.Outside = refl
   hears-one E.Text (H.Fresh p) = refl
@@ -76,7 +72,6 @@ module _ (t : List ℕ) (r : List Wish) (ts : List Token) (at : ℕ) where
 
   turns-one : (e : Event) (p : Spot)
       → conditions_from r (tokens e) (spot_of t p) ≡ after_turned (tokens e) (spot_turn p e at (content_of (drop (at + 1) t)))
-  turns-one E.Nothing p = refl
   turns-one E.Name Sp.Before = refl
   turns-one E.Name Sp.Operators = refl
   turns-one E.Name (Sp.Operator o) = refl

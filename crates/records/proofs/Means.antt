@@ -1,12 +1,6 @@
 -- A document whose records are all taken is written as the table of its statements.
-use Prim.Native.Nat.{ℕ, ◌+◌, ◌≤◌}
-use mathlib.Core.Bool.{true}
-use mathlib.Core.Path.{◌≡◌, refl, ◌∙◌, ap, subst}
-use mathlib.Core.List.{List, [], ◌∷◌, ◌++◌}
-use native.Mathlib.Omega.{arith}
-use lib.ListN.{length, take}
+use Rattle.std.proofs.Common.{ℕ, ◌+◌, ◌≤◌, true, ◌≡◌, refl, ◌∙◌, ap, subst, List, [], ◌∷◌, ◌++◌, arith, length, take, le-ltb}
 use lib.Seq.{sets, length-sets}
-use borrow.Author.Tests.{le-ltb}
 use Rattle.json_text.specs.Trees.{Tree}
 use Rattle.json_text.specs.Trees.Shape.{one}
 use Rattle.stored.specs.Machine.{fresh_state, is_ended}
@@ -17,11 +11,10 @@ use Rattle.stored.specs.Machinery.Following.{admit}
 use Rattle.stored.specs.Entries.Entry.{start, statement, column, condition, network, value, end}
 use Rattle.stored.specs.Tables.{Listed, Element, Condition, Statement, table_of}
 use Rattle.stored.specs.declared.machine.State.{State}
-use Rattle.stored.specs.declared.machine.Turn.{Turn}
-use Rattle.stored.specs.declared.machine.Turn.TheVariants as T
-use Rattle.stored.specs.declared.reader.ReadAnswer.TheVariants as A
+use Rattle.stored.specs.Machine.{Turn, Turn as T}
+use Rattle.stored.specs.Reading.{ReadAnswer as A}
 use Rattle.stored.specs.declared.writer.Writer.{Writer}
-use Rattle.stored.specs.declared.writer.WriteAnswer.TheVariants as W
+use Rattle.stored.specs.Writing.{WriteAnswer as W}
 use Rattle.stored.specs.Form.{listed_for, elements_for, conditions_for, statements_for}
 use Rattle.stored.proofs.Promises.{read-write, end-ends}
 use Rattle.stored.proofs.FormReads.{table-of-entries}

@@ -1,11 +1,5 @@
 -- What a walk to a member finds: token by token, and in a tree's tokens.
-use Prim.Native.Nat.{ℕ, ◌+◌, ◌-◌, ◌≤◌}
-use mathlib.Core.Bool.{Bool, true, false}
-use mathlib.Core.Path.{◌≡◌, refl, ◌∙◌, ap}
-use mathlib.Core.List.{List}
-use native.Mathlib.Omega.{arith}
-use lib.Dec.{eqb}
-use borrow.Author.Tests.{ne_eqb}
+use Rattle.std.proofs.Common.{ℕ, ◌+◌, ◌-◌, ◌≤◌, Bool, true, false, ◌≡◌, refl, ◌∙◌, ap, List, arith, eqb, ne_eqb}
 use Rattle.json_text.specs.Choice.{pick}
 use Rattle.json_text.specs.Trees.{Shape, Tree}
 use Rattle.json_text.specs.Trees.Shape.{one, several, named}
@@ -14,11 +8,8 @@ use Rattle.json_text.specs.Machinery.Pieces.{content_of}
 use Rattle.json_text.specs.Machinery.Tokens.{Token, mark, flat}
 use Rattle.json_text.specs.declared.events.Event.{Event}
 use Rattle.json_text.specs.declared.events.Event.TheVariants as E
-use Rattle.records.specs.Machinery.Walkers.{Sought, kind_in, slot_in, seek_turn, after_move, seek}
+use Rattle.records.specs.Machinery.Walkers.{Sought, Moved, Moved as M, seek_turn, after_move, seek}
 use Rattle.records.specs.Machinery.Walkers.Sought.{none, found}
-use Rattle.records.specs.declared.walking.Table.{Table}
-use Rattle.records.specs.declared.walking.Moved.{Moved}
-use Rattle.records.specs.declared.walking.Moved.TheVariants as M
 
 -- one token changes the depth by one at most
 abbrev pub depth_of : Moved → ℕ
@@ -26,54 +17,52 @@ depth_of (M.On d) = d
 depth_of M.Gone = 0
 depth_of (M.Here k) = 0
 
-pub near : (w : Table) (slot d : ℕ) (e : Event) (x : List ℕ) → depth_of (seek_turn w slot d e x) ≤ d + 1
-near w slot d E.Nothing x = omega arith
-near w slot d E.Name x = by (eqb d 0) (eqb (slot_in w (kind_in w x)) slot)
+pub near : (kind_of : List ℕ → ℕ) (slot_of : ℕ → ℕ) (slot d : ℕ) (e : Event) (x : List ℕ) → depth_of (seek_turn kind_of slot_of slot d e x) ≤ d + 1
+near kind_of slot_of slot d E.Name x = by (eqb d 0) (eqb (slot_of (kind_of x)) slot)
   where
-    by : (a b : Bool) → depth_of (pick a (pick b (M.Here (kind_in w x)) (M.On d)) (M.On d)) ≤ d + 1
+    by : (a b : Bool) → depth_of (pick a (pick b (M.Here (kind_of x)) (M.On d)) (M.On d)) ≤ d + 1
     by true true = omega arith
     by true false = omega arith
     by false b = omega arith
-near w slot d E.Text x = omega arith
-near w slot d E.Other x = omega arith
-near w slot d E.OpenList x = omega arith
-near w slot d E.CloseList x = by (eqb d 0)
+near kind_of slot_of slot d E.Text x = omega arith
+near kind_of slot_of slot d E.Other x = omega arith
+near kind_of slot_of slot d E.OpenList x = omega arith
+near kind_of slot_of slot d E.CloseList x = by (eqb d 0)
   where
     by : (a : Bool) → depth_of (pick a M.Gone (M.On (d - 1))) ≤ d + 1
     by true = omega arith
     by false = omega arith
-near w slot d E.OpenObject x = omega arith
-near w slot d E.CloseObject x = by (eqb d 0)
+near kind_of slot_of slot d E.OpenObject x = omega arith
+near kind_of slot_of slot d E.CloseObject x = by (eqb d 0)
   where
     by : (a : Bool) → depth_of (pick a M.Gone (M.On (d - 1))) ≤ d + 1
     by true = omega arith
     by false = omega arith
 
-meets : (w : Table) (slot : ℕ) (e : Event) (n : ℕ) (s : List ℕ) (ts : List Token) (d : ℕ)
-    → seek w slot (mark e n s ts) d ≡ after_move (seek w slot ts) ts (seek_turn w slot d e (content_of s))
-meets w slot E.Nothing n s ts d = refl
-meets w slot E.Name n s ts d = refl
-meets w slot E.Text n s ts d = refl
-meets w slot E.Other n s ts d = refl
-meets w slot E.OpenList n s ts d = refl
-meets w slot E.CloseList n s ts d = refl
-meets w slot E.OpenObject n s ts d = refl
-meets w slot E.CloseObject n s ts d = refl
+meets : (kind_of : List ℕ → ℕ) (slot_of : ℕ → ℕ) (slot : ℕ) (e : Event) (n : ℕ) (s : List ℕ) (ts : List Token) (d : ℕ)
+    → seek kind_of slot_of slot (mark e n s ts) d ≡ after_move (seek kind_of slot_of slot ts) ts (seek_turn kind_of slot_of slot d e (content_of s))
+meets kind_of slot_of slot E.Name n s ts d = refl
+meets kind_of slot_of slot E.Text n s ts d = refl
+meets kind_of slot_of slot E.Other n s ts d = refl
+meets kind_of slot_of slot E.OpenList n s ts d = refl
+meets kind_of slot_of slot E.CloseList n s ts d = refl
+meets kind_of slot_of slot E.OpenObject n s ts d = refl
+meets kind_of slot_of slot E.CloseObject n s ts d = refl
 
 -- one token of the walk
-pub moves : (w : Table) (slot : ℕ) (us : List Token) (e : Event) (n : ℕ) (s : List ℕ) (ts : List Token) (d : ℕ) {x : Moved}
-    → us ≡ mark e n s ts → seek_turn w slot d e (content_of s) ≡ x → seek w slot us d ≡ after_move (seek w slot ts) ts x
-moves w slot us e n s ts d met turn =
-    ap (λ (vs : List Token). seek w slot vs d) met ∙ meets w slot e n s ts d ∙ ap (after_move (seek w slot ts) ts) turn
+pub moves : (kind_of : List ℕ → ℕ) (slot_of : ℕ → ℕ) (slot : ℕ) (us : List Token) (e : Event) (n : ℕ) (s : List ℕ) (ts : List Token) (d : ℕ) {x : Moved}
+    → us ≡ mark e n s ts → seek_turn kind_of slot_of slot d e (content_of s) ≡ x → seek kind_of slot_of slot us d ≡ after_move (seek kind_of slot_of slot ts) ts x
+moves kind_of slot_of slot us e n s ts d met turn =
+    ap (λ (vs : List Token). seek kind_of slot_of slot vs d) met ∙ meets kind_of slot_of slot e n s ts d ∙ ap (after_move (seek kind_of slot_of slot ts) ts) turn
 
 abbrev inside : Shape → ℕ → ℕ
 inside one d = d
 inside several d = d + 1
 inside named d = d + 1
 
-module _ (w : Table) (slot : ℕ) where
+module _ (kind_of : List ℕ → ℕ) (slot_of : ℕ → ℕ) (slot : ℕ) where
   -- a bracket closes above depth 0
-  closes : (ts : List Token) (d : ℕ) → after_move (seek w slot ts) ts (pick (eqb (d + 1) 0) M.Gone (M.On (d + 1 - 1))) ≡ seek w slot ts d
+  closes : (ts : List Token) (d : ℕ) → after_move (seek kind_of slot_of slot ts) ts (pick (eqb (d + 1) 0) M.Gone (M.On (d + 1 - 1))) ≡ seek kind_of slot_of slot ts d
   closes ts d =
       let e : eqb (d + 1) 0 ≡ false = ne_eqb (d + 1) 0 (λ x. omega arith) in
       let f : d + 1 - 1 ≡ d = omega arith in
@@ -81,13 +70,13 @@ module _ (w : Table) (slot : ℕ) where
 
   -- a name above depth 0
   names : (b : Bool) (k : ℕ) (ts us : List Token) (d : ℕ)
-      → after_move (seek w slot ts) us (pick (eqb (d + 1) 0) (pick b (M.Here k) (M.On (d + 1))) (M.On (d + 1))) ≡ seek w slot ts (d + 1)
+      → after_move (seek kind_of slot_of slot ts) us (pick (eqb (d + 1) 0) (pick b (M.Here k) (M.On (d + 1))) (M.On (d + 1))) ≡ seek kind_of slot_of slot ts (d + 1)
   names b k ts us d =
       let e : eqb (d + 1) 0 ≡ false = ne_eqb (d + 1) 0 (λ x. omega arith) in
       rw e
 
   -- a value is passed over
-  passes : {k : Shape} (v : Tree k) (ts : List Token) (d : ℕ) → seek w slot (flat v ts) (inside k d) ≡ seek w slot ts d
+  passes : {k : Shape} (v : Tree k) (ts : List Token) (d : ℕ) → seek kind_of slot_of slot (flat v ts) (inside k d) ≡ seek kind_of slot_of slot ts d
   passes (text n bs) ts d = refl
   passes (other n) ts d = refl
   passes (list n es) ts d = passes es ts d
@@ -96,20 +85,20 @@ module _ (w : Table) (slot : ℕ) where
   passes (element v es) ts d = passes v (flat es ts) (d + 1) ∙ passes es ts d
   passes (end_object n) ts d = closes ts d
   passes (member n x v ms) ts d =
-      names (eqb (slot_in w (kind_in w x)) slot) (kind_in w x) (flat v (flat ms ts)) (flat v (flat ms ts)) d
+      names (eqb (slot_of (kind_of x)) slot) (kind_of x) (flat v (flat ms ts)) (flat v (flat ms ts)) d
       ∙ passes v (flat ms ts) (d + 1) ∙ passes ms ts d
 
   -- the first member with a mark, with what is behind it
   abbrev pub sought_in : Tree named → List Token → Sought
   sought_in (end_object n) ts = none
-  sought_in (member n x v ms) ts = pick (eqb (slot_in w (kind_in w x)) slot) (found (kind_in w x) (flat v (flat ms ts))) (sought_in ms ts)
+  sought_in (member n x v ms) ts = pick (eqb (slot_of (kind_of x)) slot) (found (kind_of x) (flat v (flat ms ts))) (sought_in ms ts)
 
-  pub seeks : (ms : Tree named) (ts : List Token) → seek w slot (flat ms ts) 0 ≡ sought_in ms ts
+  pub seeks : (ms : Tree named) (ts : List Token) → seek kind_of slot_of slot (flat ms ts) 0 ≡ sought_in ms ts
   seeks (end_object n) ts = refl
-  seeks (member n x v ms) ts = by (eqb (slot_in w (kind_in w x)) slot) (passes v (flat ms ts) 0 ∙ seeks ms ts)
+  seeks (member n x v ms) ts = by (eqb (slot_of (kind_of x)) slot) (passes v (flat ms ts) 0 ∙ seeks ms ts)
     where
-      by : (b : Bool) → seek w slot (flat v (flat ms ts)) 0 ≡ sought_in ms ts
-          → after_move (seek w slot (flat v (flat ms ts))) (flat v (flat ms ts)) (pick b (M.Here (kind_in w x)) (M.On 0))
-          ≡ pick b (found (kind_in w x) (flat v (flat ms ts))) (sought_in ms ts)
+      by : (b : Bool) → seek kind_of slot_of slot (flat v (flat ms ts)) 0 ≡ sought_in ms ts
+          → after_move (seek kind_of slot_of slot (flat v (flat ms ts))) (flat v (flat ms ts)) (pick b (M.Here (kind_of x)) (M.On 0))
+          ≡ pick b (found (kind_of x) (flat v (flat ms ts))) (sought_in ms ts)
       by true h = refl
       by false h = h

@@ -1,13 +1,6 @@
 -- The next statement: token by token, and what follows of the wishes of statements and of their number.
 use Prim.{tt}
-use Prim.Native.Nat.{ℕ, zero, suc, ◌+◌, ◌-◌, ◌≤◌, ◌<◌}
-use mathlib.Core.Bool.{Bool, true, false}
-use mathlib.Core.Path.{◌≡◌, refl, sym, ◌∙◌, ap}
-use mathlib.Core.List.{List, [], ◌∷◌}
-use native.Mathlib.Numerals.{add-one}
-use native.Mathlib.Omega.{arith}
-use lib.Dec.{eqb}
-use borrow.Author.Tests.{ne_eqb}
+use Rattle.std.proofs.Common.{ℕ, zero, suc, ◌+◌, ◌-◌, ◌≤◌, ◌<◌, Bool, true, false, ◌≡◌, refl, sym, ◌∙◌, ap, List, [], ◌∷◌, add-one, arith, eqb, ne_eqb}
 use Rattle.json_text.specs.Choice.{pick}
 use Rattle.json_text.specs.Machinery.Tokens.{Token, mark}
 use Rattle.json_text.specs.Machinery.Tokens.Token.{name, text, other, open-list, close-list, open-object, close-object}
@@ -38,7 +31,6 @@ lower m n d h k = by (eqb d 0)
 
 -- one token changes the depth by one at most
 pub shallow : (m n : ℕ) → n < m → (a : Among) (e : Event) → AtMost n a → Shallow m (among_turn a e)
-shallow m n h A.Begin E.Nothing k = tt
 shallow m n h A.Begin E.Name k = tt
 shallow m n h A.Begin E.Text k = tt
 shallow m n h A.Begin E.Other k = tt
@@ -46,7 +38,6 @@ shallow m n h A.Begin E.OpenList k = tt
 shallow m n h A.Begin E.CloseList k = tt
 shallow m n h A.Begin E.OpenObject k = tt
 shallow m n h A.Begin E.CloseObject k = tt
-shallow m n h A.Between E.Nothing k = tt
 shallow m n h A.Between E.Name k = tt
 shallow m n h A.Between E.Text k = tt
 shallow m n h A.Between E.Other k = tt
@@ -54,7 +45,6 @@ shallow m n h A.Between E.OpenList k = omega arith
 shallow m n h A.Between E.CloseList k = tt
 shallow m n h A.Between E.OpenObject k = tt
 shallow m n h A.Between E.CloseObject k = tt
-shallow m n h (A.Within d) E.Nothing k = omega arith
 shallow m n h (A.Within d) E.Name k = omega arith
 shallow m n h (A.Within d) E.Text k = omega arith
 shallow m n h (A.Within d) E.Other k = omega arith
@@ -69,7 +59,6 @@ at_most m n h A.Between k = tt
 at_most m n h (A.Within d) k = omega arith
 
 meets : (e : Event) (n : ℕ) (s : List ℕ) (ts : List Token) (a : Among) → row_in (mark e n s ts) a ≡ after_sight (row_in ts) ts (among_turn a e)
-meets E.Nothing n s ts a = refl
 meets E.Name n s ts a = refl
 meets E.Text n s ts a = refl
 meets E.Other n s ts a = refl

@@ -1,12 +1,5 @@
 -- The wishes from the tokens of a sound document are those of its tree.
-use Prim.Native.Nat.{ℕ, suc, ◌+◌, ◌/◌, ◌≤◌}
-use mathlib.Core.Bool.{Bool, true, false}
-use mathlib.Core.Path.{◌≡◌, refl, ◌∙◌, ap, subst}
-use mathlib.Core.List.{List, [], ◌∷◌}
-use native.Mathlib.Omega.{arith}
-use lib.Dec.{eqb, leb}
-use lib.ListN.{length}
-use borrow.Author.Tests.{eqb-true, leb-true, leb-false}
+use Rattle.std.proofs.Common.{ℕ, suc, ◌+◌, ◌/◌, ◌≤◌, Bool, true, false, ◌≡◌, refl, ◌∙◌, ap, subst, List, [], ◌∷◌, arith, eqb, leb, length, eqb-true, leb-true, leb-false}
 use Rattle.json_text.specs.Choice.{pick}
 use Rattle.json_text.specs.Choice.{same_bytes}
 use Rattle.json_text.specs.Trees.{Shape, Tree}
@@ -20,7 +13,7 @@ use Rattle.stored.specs.declared.items.Key.{Key}
 use Rattle.stored.specs.declared.items.Sort.{Sort}
 use Rattle.stored.specs.declared.items.Sort.TheVariants as S
 use Rattle.members.specs.Machinery.Verdicts as Mb
-use Rattle.members.specs.Members.{Verdict, place, top_kind, row_kind, row_slot, aws_kind, operator_kind, key_kind}
+use Rattle.members.specs.Members.{Verdict, place, top_kind, row_kind, row_slot, itself, aws_kind, operator_kind, key_kind}
 use Rattle.members.specs.Machinery.Verdicts.{following, is_seen, add, is_bad}
 use Rattle.members.specs.Members.Verdict.{fine, refused}
 use Rattle.records.specs.Documents.{Found, held, stated, each_statement, statements_under, marked, members_of, holder, same, bytes, operator_at, key_at}
@@ -29,7 +22,6 @@ use Rattle.records.specs.Wishes.Wish.{made}
 use Rattle.records.specs.Machinery.Walkers.{Sought, next_place}
 use Rattle.records.specs.Machinery.Streams.{Spot, Among, values_from, conditions_from, effect_on, effect_from, element_from, condition_from, row_from, rows_from, count_from, statement_from, document_from}
 use Rattle.records.specs.Machinery.Streams.Hold.{outside, fresh, filled}
-use Rattle.records.specs.declared.walking.Table.TheVariants as W
 use Rattle.records.proofs.Seeking.{sought_in, seeks}
 
 abbrev number : Verdict → ℕ
@@ -197,14 +189,14 @@ pub data Same (slot : ℕ) : Sought → Found → Type 0 where
   both : (k : ℕ) (v : Tree one) (ts : List Token) → row_slot k ≡ slot → Mb.row_value k v ≡ fine
       → Same slot (Sought.found k (flat v ts)) (Found.found k v)
 
-same-member : (slot seen : ℕ) (ms : Tree named) (ts : List Token) → Mb.row seen ms ≡ fine → Same slot (sought_in W.Row slot ms ts) (marked slot ms)
+same-member : (slot seen : ℕ) (ms : Tree named) (ts : List Token) → Mb.row seen ms ≡ fine → Same slot (sought_in row_kind row_slot slot ms ts) (marked slot ms)
 same-member slot seen (end_object n) ts e = Same.neither
 same-member slot seen (member n x v ms) ts e =
     let f = member-fine (is_bad (row_kind x) (row_slot (row_kind x)) seen) n (Mb.row_value (row_kind x) v) (Mb.row (add seen (row_slot (row_kind x))) ms) e in
     by (eqb (row_slot (row_kind x)) slot) refl f.1 (same-member slot (add seen (row_slot (row_kind x))) ms ts f.2)
   where
-    by : (b : Bool) → eqb (row_slot (row_kind x)) slot ≡ b → Mb.row_value (row_kind x) v ≡ fine → Same slot (sought_in W.Row slot ms ts) (marked slot ms)
-        → Same slot (pick b (Sought.found (row_kind x) (flat v (flat ms ts))) (sought_in W.Row slot ms ts)) (pick b (Found.found (row_kind x) v) (marked slot ms))
+    by : (b : Bool) → eqb (row_slot (row_kind x)) slot ≡ b → Mb.row_value (row_kind x) v ≡ fine → Same slot (sought_in row_kind row_slot slot ms ts) (marked slot ms)
+        → Same slot (pick b (Sought.found (row_kind x) (flat v (flat ms ts))) (sought_in row_kind row_slot slot ms ts)) (pick b (Found.found (row_kind x) v) (marked slot ms))
     by true a g h = Same.both (row_kind x) v (flat ms ts) (eqb-true _ _ a) g
     by false a g h = h
 
@@ -240,16 +232,16 @@ condition-element _ _ r (Same.both k v ts p q) = conditions-from r v ts (is_cond
 pub row_from_lem : (ms : Tree named) (ts : List Token) (r : List Wish) → Mb.row 0 ms ≡ fine → row_from (flat ms ts) r ≡ statement_wishes ms r
 row_from_lem ms ts r e =
     rw (
-      seeks W.Row 2 ms ts,
-      seeks W.Row 3 ms ts,
-      seeks W.Row 4 ms ts,
-      seeks W.Row 5 ms ts,
-      seeks W.Row 6 ms ts,
-      effect-from (sought_in W.Row 2 ms ts) (marked 2 ms) (same-member 2 0 ms ts e),
-      condition-element (sought_in W.Row 6 ms ts) (marked 6 ms) r (same-member 6 0 ms ts e),
-      string-element 5 (omega arith) (omega arith) (sought_in W.Row 5 ms ts) (marked 5 ms) _ (same-member 5 0 ms ts e),
-      string-element 4 (omega arith) (omega arith) (sought_in W.Row 4 ms ts) (marked 4 ms) _ (same-member 4 0 ms ts e),
-      principal-element (sought_in W.Row 3 ms ts) (marked 3 ms) _ (same-member 3 0 ms ts e),
+      seeks row_kind row_slot 2 ms ts,
+      seeks row_kind row_slot 3 ms ts,
+      seeks row_kind row_slot 4 ms ts,
+      seeks row_kind row_slot 5 ms ts,
+      seeks row_kind row_slot 6 ms ts,
+      effect-from (sought_in row_kind row_slot 2 ms ts) (marked 2 ms) (same-member 2 0 ms ts e),
+      condition-element (sought_in row_kind row_slot 6 ms ts) (marked 6 ms) r (same-member 6 0 ms ts e),
+      string-element 5 (omega arith) (omega arith) (sought_in row_kind row_slot 5 ms ts) (marked 5 ms) _ (same-member 5 0 ms ts e),
+      string-element 4 (omega arith) (omega arith) (sought_in row_kind row_slot 4 ms ts) (marked 4 ms) _ (same-member 4 0 ms ts e),
+      principal-element (sought_in row_kind row_slot 3 ms ts) (marked 3 ms) _ (same-member 3 0 ms ts e),
     )
 
 -- the statements
@@ -328,14 +320,14 @@ data Stated : Sought → Found → Type 0 where
   neither : Stated Sought.none Found.none
   both : (k : ℕ) (v : Tree one) (ts : List Token) → Mb.rows v ≡ fine → Stated (Sought.found k (flat v ts)) (Found.found k v)
 
-same-stated : (seen : ℕ) (ms : Tree named) (ts : List Token) → Mb.top seen ms ≡ fine → Stated (sought_in W.Top 2 ms ts) (stated ms)
+same-stated : (seen : ℕ) (ms : Tree named) (ts : List Token) → Mb.top seen ms ≡ fine → Stated (sought_in top_kind itself 2 ms ts) (stated ms)
 same-stated seen (end_object n) ts e = Stated.neither
 same-stated seen (member n x v ms) ts e =
     let f = member-fine (is_bad (top_kind x) (top_kind x) seen) n (Mb.top_value (top_kind x) v) (Mb.top (add seen (top_kind x)) ms) e in
     by (eqb (top_kind x) 2) refl f.1 (same-stated (add seen (top_kind x)) ms ts f.2)
   where
-    by : (b : Bool) → eqb (top_kind x) 2 ≡ b → Mb.top_value (top_kind x) v ≡ fine → Stated (sought_in W.Top 2 ms ts) (stated ms)
-        → Stated (pick b (Sought.found (top_kind x) (flat v (flat ms ts))) (sought_in W.Top 2 ms ts)) (pick b (Found.found (top_kind x) v) (stated ms))
+    by : (b : Bool) → eqb (top_kind x) 2 ≡ b → Mb.top_value (top_kind x) v ≡ fine → Stated (sought_in top_kind itself 2 ms ts) (stated ms)
+        → Stated (pick b (Sought.found (top_kind x) (flat v (flat ms ts))) (sought_in top_kind itself 2 ms ts)) (pick b (Found.found (top_kind x) v) (stated ms))
     by true a g h = Stated.both (top_kind x) v (flat ms ts) (subst (λ (k : ℕ). Mb.top_value k v ≡ fine) (eqb-true (top_kind x) 2 a) g)
     by false a g h = h
 
@@ -350,4 +342,4 @@ document-from (text n bs) ts e = never 22 n e
 document-from (other n) ts e = never 22 n e
 document-from (list n es) ts e = never 22 n e
 document-from (object n ms) ts e =
-    ap statement_from (seeks W.Top 2 ms ts) ∙ stated-from (sought_in W.Top 2 ms ts) (stated ms) (same-stated 0 ms ts e)
+    ap statement_from (seeks top_kind itself 2 ms ts) ∙ stated-from (sought_in top_kind itself 2 ms ts) (stated ms) (same-stated 0 ms ts e)

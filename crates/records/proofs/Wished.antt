@@ -1,9 +1,5 @@
 -- The entries that a document wishes for are those of its statements.
-use Prim.Native.Nat.{ℕ}
-use mathlib.Core.Bool.{Bool, true, false}
-use mathlib.Core.Path.{◌≡◌, refl, ◌∙◌, ap}
-use mathlib.Core.List.{List, [], ◌∷◌}
-use lib.ListN.{length}
+use Rattle.std.proofs.Common.{ℕ, Bool, true, false, ◌≡◌, refl, ◌∙◌, ap, List, [], ◌∷◌, length}
 use Rattle.json_text.specs.Choice.{pick}
 use Rattle.json_text.specs.Choice.{same_bytes}
 use Rattle.json_text.specs.Trees.{Tree}

@@ -1,32 +1,24 @@
 -- One wish of a document: the effect, the document's beginning, and a place that is cut down to the text.
-use Prim.Native.Nat.{ℕ, ◌+◌, ◌-◌, ◌<◌}
-use mathlib.Core.Bool.{Bool, true, false}
-use mathlib.Core.Path.{◌≡◌, refl, sym, ◌∙◌, ap}
-use mathlib.Core.List.{List, []}
-use native.Mathlib.Omega.{arith}
-use lib.Dec.{leb}
-use lib.ListN.{length, drop, drop_of_length-le}
-use borrow.Author.Tests.{leb-true, leb-false}
+use Rattle.std.proofs.Common.{ℕ, min, ◌+◌, ◌-◌, ◌<◌, Bool, true, false, ◌≡◌, refl, sym, ◌∙◌, ap, List, [], arith, leb, length, drop, drop_of_length-le, leb-true, leb-false}
 use Rattle.json_text.specs.Choice.{pick, same_bytes}
 use Rattle.json_text.specs.Machinery.Pieces.{content_of}
 use Rattle.json_text.specs.Machinery.Tokens.{Token, mark, tokens_of}
-use Rattle.json_text.specs.Machinery.Marks.{is_nothing}
 use Rattle.json_text.specs.declared.events.Event.{Event}
 use Rattle.json_text.specs.declared.events.Event.TheVariants as E
 use Rattle.stored.specs.Entries.Entry.{start, statement, column, condition, end}
 use Rattle.stored.specs.declared.items.Effect.TheVariants as Ef
 use Rattle.stored.specs.declared.items.Sort.{Sort}
 use Rattle.stored.specs.declared.items.Sort.TheVariants as So
+use Rattle.members.specs.Members.{top_kind, itself}
 use Rattle.records.specs.Documents.{allow_text, deny_text}
 use Rattle.records.specs.Wishes.{Wish, string_wish, effect_wish}
 use Rattle.records.specs.Wishes.Wish.{made, strange, empty}
 use Rattle.records.specs.Machinery.Walkers.{seek}
 use Rattle.records.specs.Machinery.Streams.{effect_on, statement_from, document_from}
-use Rattle.records.specs.Machinery.Cursors.{wish_of, effect_said, effect_by, wishes_left, first_cursor, Clipped}
-use Rattle.records.specs.declared.walking.Table.TheVariants as T
+use Rattle.records.specs.Machinery.Cursors.{wish_of, effect_said, effect_by, wishes_left, first_cursor}
 use Rattle.records.specs.declared.wishes.Wish as Code
 use Rattle.records.specs.declared.wishes.Wish.TheVariants as W
-use Rattle.records.proofs.Meeting.{never, nothing_left}
+use Rattle.records.proofs.Meeting.{nothing_left}
 
 -- no bytes are neither effect
 no-effect : (n : ℕ) → effect_wish n [] ≡ strange n
@@ -45,37 +37,34 @@ said t bs at = by (same_bytes bs allow_text) (same_bytes bs deny_text)
     by false true = refl
     by false false = refl
 
-pub effect-met : (t : List ℕ) (at : ℕ) (s : List ℕ) (ts : List Token) (e : Event) → is_nothing e ≡ false
+pub effect-met : (t : List ℕ) (at : ℕ) (s : List ℕ) (ts : List Token) (e : Event)
     → effect_on (mark e (length t - at) s ts) ≡ wish_of t (effect_by e (content_of s)) at
-effect-met t at s ts E.Nothing h = never h
-effect-met t at s ts E.Name h = no-effect (length t - at)
-effect-met t at s ts E.Text h = said t (content_of s) at
-effect-met t at s ts E.Other h = no-effect (length t - at)
-effect-met t at s ts E.OpenList h = no-effect (length t - at)
-effect-met t at s ts E.CloseList h = no-effect (length t - at)
-effect-met t at s ts E.OpenObject h = no-effect (length t - at)
-effect-met t at s ts E.CloseObject h = no-effect (length t - at)
+effect-met t at s ts E.Name = no-effect (length t - at)
+effect-met t at s ts E.Text = said t (content_of s) at
+effect-met t at s ts E.Other = no-effect (length t - at)
+effect-met t at s ts E.OpenList = no-effect (length t - at)
+effect-met t at s ts E.CloseList = no-effect (length t - at)
+effect-met t at s ts E.OpenObject = no-effect (length t - at)
+effect-met t at s ts E.CloseObject = no-effect (length t - at)
 
 -- a document is an object
 abbrev pub opened : List Token → Event → List Wish
-opened ts E.Nothing = []
 opened ts E.Name = []
 opened ts E.Text = []
 opened ts E.Other = []
 opened ts E.OpenList = []
 opened ts E.CloseList = []
-opened ts E.OpenObject = statement_from (seek T.Top 2 ts 0)
+opened ts E.OpenObject = statement_from (seek top_kind itself 2 ts 0)
 opened ts E.CloseObject = []
 
-pub opens : (n : ℕ) (s : List ℕ) (ts : List Token) (e : Event) → is_nothing e ≡ false → document_from (mark e n s ts) ≡ opened ts e
-opens n s ts E.Nothing h = never h
-opens n s ts E.Name h = refl
-opens n s ts E.Text h = refl
-opens n s ts E.Other h = refl
-opens n s ts E.OpenList h = refl
-opens n s ts E.CloseList h = refl
-opens n s ts E.OpenObject h = refl
-opens n s ts E.CloseObject h = refl
+pub opens : (n : ℕ) (s : List ℕ) (ts : List Token) (e : Event) → document_from (mark e n s ts) ≡ opened ts e
+opens n s ts E.Name = refl
+opens n s ts E.Text = refl
+opens n s ts E.Other = refl
+opens n s ts E.OpenList = refl
+opens n s ts E.CloseList = refl
+opens n s ts E.OpenObject = refl
+opens n s ts E.CloseObject = refl
 
 -- behind the end every place says the same
 module _ (t : List ℕ) (p : ℕ) (h : length t < p) where
@@ -100,14 +89,14 @@ module _ (t : List ℕ) (p : ℕ) (h : length t < p) where
   beyond W.Network = string-beyond So.Address
   beyond W.End = ap (λ (n : ℕ). made n end) left
 
-pub clipped : (t : List ℕ) (w : Code.Wish) (p q : ℕ) → Clipped (length t) p q → wish_of t w p ≡ wish_of t w q
-clipped t w p q c = by (leb p (length t)) refl
+pub clipped : (t : List ℕ) (w : Code.Wish) (p : ℕ) → wish_of t w p ≡ wish_of t w (min p (length t))
+clipped t w p = by (leb p (length t)) refl
   where
-    by : (b : Bool) → leb p (length t) ≡ b → wish_of t w p ≡ wish_of t w q
-    by true e = ap (wish_of t w) (sym (c.kept (leb-true p (length t) e)))
+    by : (b : Bool) → leb p (length t) ≡ b → wish_of t w p ≡ wish_of t w (min p (length t))
+    by true e = ap (wish_of t w) (omega (arith, leb-true p (length t) e))
     by false e =
         let h : length t < p = leb-false p (length t) e in
-        beyond t p h w ∙ ap (wish_of t w) (sym (c.cut h))
+        beyond t p h w ∙ ap (wish_of t w) (omega arith)
 
 -- the first cursor has all wishes of a document
 pub first-wishes : (t : List ℕ) → wishes_left t first_cursor ≡ document_from (tokens_of t)

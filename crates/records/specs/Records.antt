@@ -5,8 +5,7 @@ use Rattle.stored.specs.Entries.{item_of, bytes_of}
 use Rattle.stored.specs.Writing.{record_of}
 use Rattle.stored.specs.Machine.{fresh_state, admit_item}
 use Rattle.stored.specs.declared.machine.State.{State}
-use Rattle.stored.specs.declared.machine.Turn.{Turn}
-use Rattle.stored.specs.declared.machine.Turn.TheVariants as T
+use Rattle.stored.specs.Machine.{Turn, Turn as T}
 use Rattle.json_text.specs.Trees.{Tree}
 use Rattle.json_text.specs.Trees.Shape.{one}
 use Rattle.members.specs.Members.{Verdict}

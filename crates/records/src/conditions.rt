@@ -8,13 +8,13 @@ ghost use Rattle.records.specs.Machinery.Cursors.{spot_of, name_turn, text_turn,
 
 use crate::wishes::{Wish, key_at, operator_at, string_kind};
 use json_text::events::Event;
-use json_text::tokens::{Mark, Met, next_token};
-use members::names::{key_kind, operator_kind};
+use json_text::tokens::{Mark, next_token};
+use members::names::{key_name, operator_name};
 use stored::items::{Key, Operator};
 
 // Where the reading of conditions stands: before the value of Condition; among its operators, behind an operator's name, among its keys,
 // behind a key's name; before the value of a condition that was wished for; in its list, empty since a place, or not.
-#[derive(Clone, Copy)]
+#[derive(Clone, Copy, Debug, PartialEq, Eq)]
 pub enum Spot {
     Before,
     Operators,
@@ -26,7 +26,7 @@ pub enum Spot {
     FilledList(Operator),
 }
 
-#[derive(Clone, Copy)]
+#[derive(Clone, Copy, Debug, PartialEq, Eq)]
 pub enum Turned {
     On(Spot),
     // A condition, wished for before its value is read.
@@ -38,25 +38,22 @@ pub enum Turned {
     Gone,
 }
 
-#[derive(Clone, Copy)]
-pub enum Said {
-    // A wish, its place, and where to go on.
-    Wish(Wish, usize, Mark, Spot),
-    None,
+/// A wish, its place, and where to go on.
+#[derive(Clone, Copy, Debug, PartialEq, Eq)]
+pub struct Said {
+    pub wish: Wish,
+    pub place: usize,
+    pub here: Mark,
+    pub spot: Spot,
 }
 
 fn on_name(spot: Spot, text: &[u8], from: usize) -> Turned
     ensures { result ≡ name_turn spot (content_of (drop from text.now)) }
 {
     match spot {
-        Spot::Before => Turned::Gone,
-        Spot::Operators => Turned::On(Spot::Operator(operator_at(operator_kind(text, from)))),
-        Spot::Operator(operator) => Turned::Gone,
-        Spot::Keys(operator) => Turned::On(Spot::Key(operator, key_at(key_kind(text, from)))),
-        Spot::Key(operator, key) => Turned::Gone,
-        Spot::Value(operator) => Turned::Gone,
-        Spot::EmptyList(operator, place) => Turned::Gone,
-        Spot::FilledList(operator) => Turned::Gone,
+        Spot::Operators => Turned::On(Spot::Operator(operator_at(operator_name(text, from)))),
+        Spot::Keys(operator) => Turned::On(Spot::Key(operator, key_at(key_name(text, from)))),
+        _ => Turned::Gone,
     }
 }
 
@@ -64,14 +61,11 @@ fn on_text(spot: Spot) -> Turned
     ensures { result ≡ text_turn spot }
 {
     match spot {
-        Spot::Before => Turned::Gone,
-        Spot::Operators => Turned::Gone,
-        Spot::Operator(operator) => Turned::Gone,
-        Spot::Keys(operator) => Turned::Gone,
         Spot::Key(operator, key) => Turned::Waits(operator, key),
         Spot::Value(operator) => Turned::Text(operator, Spot::Keys(operator)),
-        Spot::EmptyList(operator, place) => Turned::Text(operator, Spot::FilledList(operator)),
+        Spot::EmptyList(operator, _) => Turned::Text(operator, Spot::FilledList(operator)),
         Spot::FilledList(operator) => Turned::Text(operator, Spot::FilledList(operator)),
+        _ => Turned::Gone,
     }
 }
 
@@ -79,14 +73,9 @@ fn on_list(spot: Spot, at: usize) -> Turned
     ensures { result ≡ list_turn spot at }
 {
     match spot {
-        Spot::Before => Turned::Gone,
-        Spot::Operators => Turned::Gone,
-        Spot::Operator(operator) => Turned::Gone,
-        Spot::Keys(operator) => Turned::Gone,
         Spot::Key(operator, key) => Turned::Waits(operator, key),
         Spot::Value(operator) => Turned::On(Spot::EmptyList(operator, at)),
-        Spot::EmptyList(operator, place) => Turned::Gone,
-        Spot::FilledList(operator) => Turned::Gone,
+        _ => Turned::Gone,
     }
 }
 
@@ -94,14 +83,9 @@ fn on_list_end(spot: Spot) -> Turned
     ensures { result ≡ list_end_turn spot }
 {
     match spot {
-        Spot::Before => Turned::Gone,
-        Spot::Operators => Turned::Gone,
-        Spot::Operator(operator) => Turned::Gone,
-        Spot::Keys(operator) => Turned::Gone,
-        Spot::Key(operator, key) => Turned::Gone,
-        Spot::Value(operator) => Turned::Gone,
         Spot::EmptyList(operator, place) => Turned::Empty(place, Spot::Keys(operator)),
         Spot::FilledList(operator) => Turned::On(Spot::Keys(operator)),
+        _ => Turned::Gone,
     }
 }
 
@@ -110,13 +94,8 @@ fn on_object(spot: Spot) -> Turned
 {
     match spot {
         Spot::Before => Turned::On(Spot::Operators),
-        Spot::Operators => Turned::Gone,
         Spot::Operator(operator) => Turned::On(Spot::Keys(operator)),
-        Spot::Keys(operator) => Turned::Gone,
-        Spot::Key(operator, key) => Turned::Gone,
-        Spot::Value(operator) => Turned::Gone,
-        Spot::EmptyList(operator, place) => Turned::Gone,
-        Spot::FilledList(operator) => Turned::Gone,
+        _ => Turned::Gone,
     }
 }
 
@@ -124,14 +103,8 @@ fn on_object_end(spot: Spot) -> Turned
     ensures { result ≡ object_end_turn spot }
 {
     match spot {
-        Spot::Before => Turned::Gone,
-        Spot::Operators => Turned::Gone,
-        Spot::Operator(operator) => Turned::Gone,
-        Spot::Keys(operator) => Turned::On(Spot::Operators),
-        Spot::Key(operator, key) => Turned::Gone,
-        Spot::Value(operator) => Turned::Gone,
-        Spot::EmptyList(operator, place) => Turned::Gone,
-        Spot::FilledList(operator) => Turned::Gone,
+        Spot::Keys(_) => Turned::On(Spot::Operators),
+        _ => Turned::Gone,
     }
 }
 
@@ -139,7 +112,6 @@ fn spot_turn(spot: Spot, event: Event, text: &[u8], at: usize, from: usize) -> T
     ensures { result ≡ spot_turn spot event at (content_of (drop from text.now)) }
 {
     match event {
-        Event::Nothing => Turned::On(spot),
         Event::Name => on_name(spot, text, from),
         Event::Text => on_text(spot),
         Event::Other => Turned::Gone,
@@ -151,42 +123,44 @@ fn spot_turn(spot: Spot, event: Event, text: &[u8], at: usize, from: usize) -> T
 }
 
 // The next wish of conditions, from a place in them on.
-pub(crate) fn next_condition(text: &[u8], from: Mark, start: Spot) -> Said
+pub(crate) fn next_condition(text: &[u8], from: Mark, start: Spot) -> Option<Said>
     ensures { (behind : List Wishes.Wish) → conditions_from behind (tokens_at text.now from) (spot_of text.now start) ≡ said_left text.now behind result }
 {
     let mut here = from;
     let mut spot = start;
-    loop {
-        match next_token(text, here) {
-            Met::None => {
-                return Said::None;
+    while let Some(token) = next_token(text, here) {
+        let place = token.at;
+        let behind = token.behind;
+        match spot_turn(spot, token.event, text, place, place + 1) {
+            Turned::On(further) => spot = further,
+            // The value is read behind the wish: the next walk begins here again.
+            Turned::Waits(operator, key) => {
+                return Some(Said {
+                    wish: Wish::Condition(operator, key),
+                    place,
+                    here,
+                    spot: Spot::Value(operator),
+                });
             }
-            Met::Token(event, at, behind) => {
-                match spot_turn(spot, event, text, at, at + 1) {
-                    Turned::On(further) => {
-                        here = behind;
-                        spot = further;
-                    }
-                    Turned::Waits(operator, key) => {
-                        return Said::Wish(
-                            Wish::Condition(operator, key),
-                            at,
-                            here,
-                            Spot::Value(operator),
-                        );
-                    }
-                    Turned::Text(operator, further) => {
-                        let wish = string_kind(operator);
-                        return Said::Wish(wish, at, behind, further);
-                    }
-                    Turned::Empty(place, further) => {
-                        return Said::Wish(Wish::Empty, place, behind, further);
-                    }
-                    Turned::Gone => {
-                        return Said::None;
-                    }
-                }
+            Turned::Text(operator, spot) => {
+                return Some(Said {
+                    wish: string_kind(operator),
+                    place,
+                    here: behind,
+                    spot,
+                });
             }
+            Turned::Empty(place, spot) => {
+                return Some(Said {
+                    wish: Wish::Empty,
+                    place,
+                    here: behind,
+                    spot,
+                });
+            }
+            Turned::Gone => return None,
         }
+        here = behind;
     }
+    None
 }

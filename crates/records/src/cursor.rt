@@ -1,24 +1,26 @@
 // The wishes of a document, one a call, in the order of the table.
-ghost use Rattle.std.specs.Prelude.{◌≡◌, ◌-◌, ◌≤◌, length};
+ghost use Rattle.std.specs.Prelude.{◌≡◌, ◌-◌, ◌≤◌, suc, length};
 ghost use Rattle.json_text.specs.Machinery.Marks.{tokens_at};
 ghost use Rattle.stored.specs.declared.items.Sort.TheVariants as S;
-ghost use Rattle.records.specs.declared.walking.Table.TheVariants as W;
+ghost use Rattle.members.specs.Members.{top_kind, itself};
+ghost use Rattle.members.specs.Names.{index_of_row};
 ghost use Rattle.records.specs.Machinery.Walkers.{seek};
 ghost use Rattle.records.specs.Machinery.Rows.{AtMost, among_of};
 ghost use Rattle.records.specs.Machinery.Streams.{values_from, conditions_from, row_from, rows_from, statement_from, document_from};
-ghost use Rattle.records.specs.Machinery.Cursors.{hold_of, spot_of, last, behind_row, column_from, conditions_left, resource_left, action_left, principal_left, part_left, first_cursor, wishes_left, next_wishes, Inside, Clipped};
+ghost use Rattle.records.specs.Machinery.Cursors.{hold_of, spot_of, last, behind_row, column_from, conditions_left, resource_left, action_left, principal_left, part_left, first_cursor, wishes_left, wished_left, next_wishes, Inside};
 
-use crate::conditions::{Said, Spot, next_condition};
+use crate::conditions::{Spot, next_condition};
 use crate::effects::effect_of;
 use crate::rows::{Among, Row, count_rows, next_row};
-use crate::stages::{Cursor, Next, Part, Stage};
+use crate::stages::{Cursor, Part, Stage, Wished};
 use crate::values::{Hold, Strings, next_string};
-use crate::walking::{Sought, Table, place_from, seek_member};
+use crate::walking::{Member, place_from, seek_member};
 use crate::wishes::{Wish, column_at};
 use json_text::events::Event;
-use json_text::tokens::{Mark, Met, first_mark, next_token};
+use json_text::tokens::{Mark, first_mark, next_token};
+use members::names::{RowName, TopName};
 
-// The beginning of a document.
+/// The beginning of a document.
 pub fn first() -> Cursor
     ensures { result ≡ first_cursor }
 {
@@ -26,271 +28,242 @@ pub fn first() -> Cursor
     Cursor {
         stage: Stage::Begin,
         here,
-        row: here,
-        listed: false,
+        row: Row {
+            members: here,
+            listed: false,
+        },
     }
 }
 
-fn end(text: &[u8], row: Mark) -> Next
-    ensures { last ≡ next_wishes text.now result }
+fn end(text: &[u8], row: Row) -> Wished
+    ensures { last ≡ wished_left text.now result }
 {
-    Next::Wish(
-        Wish::End,
-        text.len(),
-        Cursor {
+    Wished {
+        wish: Wish::End,
+        place: text.len(),
+        cursor: Cursor {
             stage: Stage::Over,
-            here: row,
+            here: row.members,
             row,
-            listed: false,
         },
-    )
+    }
 }
 
 // A statement begins: its effect.
-fn statement(text: &[u8], row: Mark, listed: bool) -> Next
-    ensures { row_from (tokens_at text.now row) (behind_row text.now row listed) ≡ next_wishes text.now result }
+fn statement(text: &[u8], row: Row) -> Wished
+    ensures { row_from (tokens_at text.now row.members) (behind_row text.now row) ≡ wished_left text.now result }
 {
-    let effect = effect_of(text, row);
-    let wish = effect.wish;
-    let place = effect.place;
-    Next::Wish(
-        wish,
-        place,
-        Cursor {
+    let effect = effect_of(text, row.members);
+    Wished {
+        wish: effect.wish,
+        place: effect.place,
+        cursor: Cursor {
             stage: Stage::Parts(Part::Principal),
-            here: row,
+            here: row.members,
             row,
-            listed,
         },
-    )
+    }
 }
 
 // The next statement, or the end.
-fn rows(text: &[u8], from: Mark, among: Among) -> Next
+fn rows(text: &[u8], from: Mark, among: Among, row: Row) -> Wished
     requires { AtMost from.at among }
-    ensures { rows_from last (tokens_at text.now from) (among_of among) ≡ next_wishes text.now result }
+    ensures { rows_from last (tokens_at text.now from) (among_of among) ≡ wished_left text.now result }
 {
     match next_row(text, from, among) {
-        Row::None => end(text, from),
-        Row::Found(row, listed) => statement(text, row, listed),
+        Some(next) => statement(text, next),
+        None => end(text, row),
     }
 }
 
-fn after_row(text: &[u8], row: Mark, listed: bool) -> Next
-    ensures { behind_row text.now row listed ≡ next_wishes text.now result }
+fn after_row(text: &[u8], row: Row) -> Wished
+    ensures { behind_row text.now row ≡ wished_left text.now result }
 {
-    if listed {
-        return rows(text, row, Among::Within(0));
+    if row.listed {
+        rows(text, row.members, Among::Within(0), row)
+    } else {
+        end(text, row)
     }
-    end(text, row)
 }
 
-fn conditions_at(text: &[u8], here: Mark, spot: Spot, row: Mark, listed: bool) -> Next
-    ensures { conditions_from (behind_row text.now row listed) (tokens_at text.now here) (spot_of text.now spot) ≡ next_wishes text.now result }
+fn conditions_at(text: &[u8], here: Mark, spot: Spot, row: Row) -> Wished
+    ensures { conditions_from (behind_row text.now row) (tokens_at text.now here) (spot_of text.now spot) ≡ wished_left text.now result }
 {
     match next_condition(text, here, spot) {
-        Said::Wish(wish, place, mark, further) => Next::Wish(
-            wish,
-            place,
-            Cursor {
-                stage: Stage::Conditions(further),
-                here: mark,
+        Some(said) => Wished {
+            wish: said.wish,
+            place: said.place,
+            cursor: Cursor {
+                stage: Stage::Conditions(said.spot),
+                here: said.here,
                 row,
-                listed,
             },
-        ),
-        Said::None => after_row(text, row, listed),
+        },
+        None => after_row(text, row),
     }
 }
 
-fn conditions(text: &[u8], row: Mark, listed: bool) -> Next
-    ensures { conditions_left text.now row listed ≡ next_wishes text.now result }
+fn conditions(text: &[u8], row: Row) -> Wished
+    ensures { conditions_left text.now row ≡ wished_left text.now result }
 {
-    match seek_member(text, row, Table::Row, 6) {
-        Sought::None => after_row(text, row, listed),
-        Sought::Found(kind, value) => conditions_at(text, value, Spot::Before, row, listed),
+    match seek_member(text, row.members, RowName::Condition) {
+        Some(member) => conditions_at(text, member.value, Spot::Before, row),
+        None => after_row(text, row),
     }
 }
 
 // An element begins: its column, with the part that comes behind its values.
-fn column(text: &[u8], kind: u8, value: Mark, row: Mark, listed: bool, part: Part) -> Next
-    ensures { column_from kind (tokens_at text.now value) (part_left text.now row listed part) ≡ next_wishes text.now result }
+fn column(text: &[u8], element: Member<RowName>, row: Row, part: Part) -> Wished
+    ensures { column_from (suc (index_of_row element.name)) (tokens_at text.now element.value) (part_left text.now row part) ≡ wished_left text.now result }
 {
-    let column = column_at(kind);
-    let place = place_from(text, value);
-    Next::Wish(
-        Wish::Column(column),
-        place,
-        Cursor {
+    Wished {
+        wish: Wish::Column(column_at(element.name)),
+        place: place_from(text, element.value),
+        cursor: Cursor {
             stage: Stage::Values(part, Hold::Outside),
-            here: value,
+            here: element.value,
             row,
-            listed,
         },
-    )
-}
-
-fn resource(text: &[u8], row: Mark, listed: bool) -> Next
-    ensures { resource_left text.now row listed ≡ next_wishes text.now result }
-{
-    match seek_member(text, row, Table::Row, 5) {
-        Sought::None => conditions(text, row, listed),
-        Sought::Found(kind, value) => column(text, kind, value, row, listed, Part::Conditions),
     }
 }
 
-fn action(text: &[u8], row: Mark, listed: bool) -> Next
-    ensures { action_left text.now row listed ≡ next_wishes text.now result }
+fn resource(text: &[u8], row: Row) -> Wished
+    ensures { resource_left text.now row ≡ wished_left text.now result }
 {
-    match seek_member(text, row, Table::Row, 4) {
-        Sought::None => resource(text, row, listed),
-        Sought::Found(kind, value) => column(text, kind, value, row, listed, Part::Resource),
+    match seek_member(text, row.members, RowName::Resource) {
+        Some(element) => column(text, element, row, Part::Conditions),
+        None => conditions(text, row),
     }
 }
 
-fn principal(text: &[u8], row: Mark, listed: bool) -> Next
-    ensures { principal_left text.now row listed ≡ next_wishes text.now result }
+fn action(text: &[u8], row: Row) -> Wished
+    ensures { action_left text.now row ≡ wished_left text.now result }
 {
-    match seek_member(text, row, Table::Row, 3) {
-        Sought::None => action(text, row, listed),
-        Sought::Found(kind, value) => column(text, kind, value, row, listed, Part::Action),
+    match seek_member(text, row.members, RowName::Action) {
+        Some(element) => column(text, element, row, Part::Resource),
+        None => resource(text, row),
     }
 }
 
-fn parts(text: &[u8], row: Mark, listed: bool, part: Part) -> Next
-    ensures { part_left text.now row listed part ≡ next_wishes text.now result }
+fn principal(text: &[u8], row: Row) -> Wished
+    ensures { principal_left text.now row ≡ wished_left text.now result }
+{
+    match seek_member(text, row.members, RowName::Principal) {
+        Some(element) => column(text, element, row, Part::Action),
+        None => action(text, row),
+    }
+}
+
+fn parts(text: &[u8], row: Row, part: Part) -> Wished
+    ensures { part_left text.now row part ≡ wished_left text.now result }
 {
     match part {
-        Part::Principal => principal(text, row, listed),
-        Part::Action => action(text, row, listed),
-        Part::Resource => resource(text, row, listed),
-        Part::Conditions => conditions(text, row, listed),
+        Part::Principal => principal(text, row),
+        Part::Action => action(text, row),
+        Part::Resource => resource(text, row),
+        Part::Conditions => conditions(text, row),
     }
 }
 
-fn values(text: &[u8], here: Mark, hold: Hold, row: Mark, listed: bool, part: Part) -> Next
-    ensures { values_from S.Text (part_left text.now row listed part) (tokens_at text.now here) (hold_of text.now hold) ≡ next_wishes text.now result }
+fn values(text: &[u8], here: Mark, hold: Hold, row: Row, part: Part) -> Wished
+    ensures { values_from S.Text (part_left text.now row part) (tokens_at text.now here) (hold_of text.now hold) ≡ wished_left text.now result }
 {
     match next_string(text, here, hold) {
-        Strings::Listed(place, mark) => Next::Wish(
-            Wish::Value,
+        Some(Strings::Listed(place, mark)) => Wished {
+            wish: Wish::Value,
             place,
-            Cursor {
+            cursor: Cursor {
                 stage: Stage::Values(part, Hold::Filled),
                 here: mark,
                 row,
-                listed,
             },
-        ),
-        Strings::Alone(place) => Next::Wish(
-            Wish::Value,
+        },
+        Some(Strings::Alone(place)) => Wished {
+            wish: Wish::Value,
             place,
-            Cursor {
+            cursor: Cursor {
                 stage: Stage::Parts(part),
                 here,
                 row,
-                listed,
             },
-        ),
-        Strings::Empty(place) => Next::Wish(
-            Wish::Empty,
+        },
+        Some(Strings::Empty(place)) => Wished {
+            wish: Wish::Empty,
             place,
-            Cursor {
+            cursor: Cursor {
                 stage: Stage::Parts(part),
                 here,
                 row,
-                listed,
             },
-        ),
-        Strings::None => parts(text, row, listed, part),
+        },
+        None => parts(text, row, part),
     }
 }
 
 // The number of statements, among the members of the document.
-fn start(text: &[u8], members: Mark) -> Next
-    ensures { statement_from (seek W.Top 2 (tokens_at text.now members) 0) ≡ next_wishes text.now result }
+fn start(text: &[u8], members: Mark) -> Wished
+    ensures { statement_from (seek top_kind itself 2 (tokens_at text.now members) 0) ≡ wished_left text.now result }
 {
-    match seek_member(text, members, Table::Top, 2) {
-        Sought::None => Next::Wish(
-            Wish::Start(0),
-            text.len(),
-            Cursor {
+    let row = Row {
+        members,
+        listed: false,
+    };
+    match seek_member(text, members, TopName::Statement) {
+        Some(statement) => Wished {
+            wish: Wish::Start(count_rows(text, statement.value)),
+            place: place_from(text, statement.value),
+            cursor: Cursor {
+                stage: Stage::Rows,
+                here: statement.value,
+                row,
+            },
+        },
+        None => Wished {
+            wish: Wish::Start(0),
+            place: text.len(),
+            cursor: Cursor {
                 stage: Stage::End,
                 here: members,
-                row: members,
-                listed: false,
+                row,
             },
-        ),
-        Sought::Found(kind, value) => {
-            let count = count_rows(text, value);
-            let place = place_from(text, value);
-            Next::Wish(
-                Wish::Start(count),
-                place,
-                Cursor {
-                    stage: Stage::Rows,
-                    here: value,
-                    row: value,
-                    listed: false,
-                },
-            )
-        }
-    }
-}
-
-fn document(text: &[u8], from: Mark) -> Next
-    ensures { document_from (tokens_at text.now from) ≡ next_wishes text.now result }
-{
-    match next_token(text, from) {
-        Met::None => Next::Done,
-        Met::Token(event, at, behind) => match event {
-            Event::Nothing => Next::Done,
-            Event::Name => Next::Done,
-            Event::Text => Next::Done,
-            Event::Other => Next::Done,
-            Event::OpenList => Next::Done,
-            Event::CloseList => Next::Done,
-            Event::OpenObject => start(text, behind),
-            Event::CloseObject => Next::Done,
         },
     }
 }
 
-fn wish_at(text: &[u8], cursor: Cursor) -> Next
+// A document is an object.
+fn document(text: &[u8], from: Mark) -> Option<Wished>
+    ensures { document_from (tokens_at text.now from) ≡ next_wishes text.now result }
+{
+    let token = next_token(text, from)?;
+    match token.event {
+        Event::OpenObject => Some(start(text, token.behind)),
+        _ => None,
+    }
+}
+
+fn wish_at(text: &[u8], cursor: Cursor) -> Option<Wished>
     ensures { wishes_left text.now cursor ≡ next_wishes text.now result }
 {
-    let stage = cursor.stage;
-    let here = cursor.here;
-    let row = cursor.row;
-    let listed = cursor.listed;
+    let Cursor { stage, here, row } = cursor;
     match stage {
         Stage::Begin => document(text, here),
-        Stage::Rows => rows(text, here, Among::Begin),
-        Stage::Parts(part) => parts(text, row, listed, part),
-        Stage::Values(part, hold) => values(text, here, hold, row, listed, part),
-        Stage::Conditions(spot) => conditions_at(text, here, spot, row, listed),
-        Stage::End => end(text, row),
-        Stage::Over => Next::Done,
+        Stage::Rows => Some(rows(text, here, Among::Begin, row)),
+        Stage::Parts(part) => Some(parts(text, row, part)),
+        Stage::Values(part, hold) => Some(values(text, here, hold, row, part)),
+        Stage::Conditions(spot) => Some(conditions_at(text, here, spot, row)),
+        Stage::End => Some(end(text, row)),
+        Stage::Over => None,
     }
 }
 
-// A place, or the text's end where it lies behind that.
-fn within(text: &[u8], place: usize) -> usize
-    ensures { Clipped (length text.now) place result }
-{
-    if place <= text.len() {
-        return place;
-    }
-    text.len()
-}
-
-// The next wish. No wish has a place behind the text, whatever the cursor holds.
-pub fn next(text: &[u8], cursor: Cursor) -> Next
+/// The next wish. No wish has a place behind the text, whatever the cursor holds.
+pub fn next(text: &[u8], cursor: Cursor) -> Option<Wished>
     ensures wishes { wishes_left text.now cursor ≡ next_wishes text.now result }
     ensures inside { Inside (length text.now) result }
 {
-    match wish_at(text, cursor) {
-        Next::Wish(wish, place, further) => Next::Wish(wish, within(text, place), further),
-        Next::Done => Next::Done,
-    }
+    let wished = wish_at(text, cursor)?;
+    Some(Wished {
+        place: wished.place.min(text.len()),
+        ..wished
+    })
 }

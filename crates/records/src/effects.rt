@@ -2,50 +2,46 @@
 ghost use Rattle.std.specs.Prelude.{◌≡◌, drop};
 ghost use Rattle.json_text.specs.Machinery.Marks.{tokens_at};
 ghost use Rattle.json_text.specs.Machinery.Pieces.{content_of};
-ghost use Rattle.records.specs.declared.walking.Table.TheVariants as W;
+ghost use Rattle.members.specs.Members.{row_kind, row_slot};
 ghost use Rattle.records.specs.Machinery.Walkers.{seek};
 ghost use Rattle.records.specs.Machinery.Streams.{effect_on, effect_from};
 ghost use Rattle.records.specs.Machinery.Cursors.{effect_said, effect_by, placed_wish};
 
-use crate::walking::{Sought, Table, seek_member};
+use crate::walking::seek_member;
 use crate::wishes::Wish;
 use json_text::events::Event;
 use json_text::pieces::string_is;
-use json_text::tokens::{Mark, Met, next_token};
+use json_text::tokens::{Mark, next_token};
+use members::names::RowName;
 use stored::items::Effect;
 
-// A wish, and the place of the value that it comes from.
-#[derive(Clone, Copy)]
+/// A wish, and the place of the value that it comes from.
+#[derive(Clone, Copy, Debug, PartialEq, Eq)]
 pub struct Placed {
     pub wish: Wish,
     pub place: usize,
 }
 
 // What the string that begins at a place says.
+#[tactic(auto, unfolding(crate::specs::Documents::allow_text, crate::specs::Documents::deny_text))]
 fn effect_said(text: &[u8], from: usize) -> Wish
     ensures { result ≡ effect_said (content_of (drop from text.now)) }
 {
     if string_is(text, from, b"Allow") {
-        return Wish::Statement(Effect::Allow);
+        Wish::Statement(Effect::Allow)
+    } else if string_is(text, from, b"Deny") {
+        Wish::Statement(Effect::Deny)
+    } else {
+        Wish::Strange
     }
-    if string_is(text, from, b"Deny") {
-        return Wish::Statement(Effect::Deny);
-    }
-    Wish::Strange
 }
 
 fn effect_by(event: Event, text: &[u8], from: usize) -> Wish
     ensures { result ≡ effect_by event (content_of (drop from text.now)) }
 {
     match event {
-        Event::Nothing => Wish::Strange,
-        Event::Name => Wish::Strange,
         Event::Text => effect_said(text, from),
-        Event::Other => Wish::Strange,
-        Event::OpenList => Wish::Strange,
-        Event::CloseList => Wish::Strange,
-        Event::OpenObject => Wish::Strange,
-        Event::CloseObject => Wish::Strange,
+        _ => Wish::Strange,
     }
 }
 
@@ -53,26 +49,26 @@ fn effect_on(text: &[u8], value: Mark) -> Placed
     ensures { effect_on (tokens_at text.now value) ≡ placed_wish text.now result }
 {
     match next_token(text, value) {
-        Met::None => Placed {
+        Some(token) => Placed {
+            wish: effect_by(token.event, text, token.at + 1),
+            place: token.at,
+        },
+        None => Placed {
             wish: Wish::Strange,
             place: text.len(),
         },
-        Met::Token(event, at, behind) => {
-            let wish = effect_by(event, text, at + 1);
-            Placed { wish, place: at }
-        }
     }
 }
 
 // The effect among the members from a place on.
-pub(crate) fn effect_of(text: &[u8], row: Mark) -> Placed
-    ensures { effect_from (seek W.Row 2 (tokens_at text.now row) 0) ≡ placed_wish text.now result }
+pub(crate) fn effect_of(text: &[u8], members: Mark) -> Placed
+    ensures { effect_from (seek row_kind row_slot 2 (tokens_at text.now members) 0) ≡ placed_wish text.now result }
 {
-    match seek_member(text, row, Table::Row, 2) {
-        Sought::None => Placed {
+    match seek_member(text, members, RowName::Effect) {
+        Some(effect) => effect_on(text, effect.value),
+        None => Placed {
             wish: Wish::Strange,
             place: text.len(),
         },
-        Sought::Found(kind, value) => effect_on(text, value),
     }
 }

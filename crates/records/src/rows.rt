@@ -6,17 +6,17 @@ ghost use Rattle.records.specs.Machinery.Streams.Among.{begin};
 ghost use Rattle.records.specs.Machinery.Rows.{AtMost, deeper, higher, object, among_turn, row_in, sighted, RowAhead};
 
 use json_text::events::Event;
-use json_text::tokens::{Mark, Met, next_token};
+use json_text::tokens::{Mark, next_token};
 
 // Before the value of Statement; between the statements of its list; so many brackets inside one of them.
-#[derive(Clone, Copy)]
+#[derive(Clone, Copy, Debug, PartialEq, Eq)]
 pub enum Among {
     Begin,
     Between,
     Within(usize),
 }
 
-#[derive(Clone, Copy)]
+#[derive(Clone, Copy, Debug, PartialEq, Eq)]
 pub enum Sight {
     On(Among),
     // A statement begins; whether it stands in a list.
@@ -24,11 +24,11 @@ pub enum Sight {
     Gone,
 }
 
-#[derive(Clone, Copy)]
-pub enum Row {
-    // The place behind the statement's brace; whether it stands in a list.
-    Found(Mark, bool),
-    None,
+/// A statement: the place behind its brace, where its members begin, and whether it stands in a list.
+#[derive(Clone, Copy, Debug, PartialEq, Eq)]
+pub struct Row {
+    pub members: Mark,
+    pub listed: bool,
 }
 
 fn deeper(among: Among) -> Among
@@ -46,13 +46,13 @@ fn higher(among: Among) -> Sight
     ensures { result ≡ higher among }
 {
     match among {
-        Among::Begin => Sight::Gone,
-        Among::Between => Sight::Gone,
+        Among::Begin | Among::Between => Sight::Gone,
         Among::Within(depth) => {
             if depth == 0 {
-                return Sight::On(Among::Between);
+                Sight::On(Among::Between)
+            } else {
+                Sight::On(Among::Within(depth - 1))
             }
-            Sight::On(Among::Within(depth - 1))
         }
     }
 }
@@ -73,46 +73,31 @@ fn among_turn(among: Among, event: Event) -> Sight
     ensures { result ≡ among_turn among event }
 {
     match event {
-        Event::Nothing => Sight::On(among),
-        Event::Name => Sight::On(among),
-        Event::Text => Sight::On(among),
-        Event::Other => Sight::On(among),
+        Event::Name | Event::Text | Event::Other => Sight::On(among),
         Event::OpenList => Sight::On(deeper(among)),
-        Event::CloseList => higher(among),
         Event::OpenObject => object(among),
-        Event::CloseObject => higher(among),
+        Event::CloseList | Event::CloseObject => higher(among),
     }
 }
 
 // The next statement from a place on.
-pub(crate) fn next_row(text: &[u8], from: Mark, start: Among) -> Row
+pub(crate) fn next_row(text: &[u8], from: Mark, start: Among) -> Option<Row>
     requires { AtMost from.at start }
     ensures row { sighted text.now result ≡ row_in (tokens_at text.now from) start }
     ensures ahead { RowAhead from.at (length text.now) result }
 {
     let mut here = from;
     let mut among = start;
-    loop {
-        match next_token(text, here) {
-            Met::None => {
-                return Row::None;
-            }
-            Met::Token(event, at, behind) => {
-                match among_turn(among, event) {
-                    Sight::On(further) => {
-                        here = behind;
-                        among = further;
-                    }
-                    Sight::Statement(listed) => {
-                        return Row::Found(behind, listed);
-                    }
-                    Sight::Gone => {
-                        return Row::None;
-                    }
-                }
-            }
+    while let Some(token) = next_token(text, here) {
+        let members = token.behind;
+        match among_turn(among, token.event) {
+            Sight::On(further) => among = further,
+            Sight::Statement(listed) => return Some(Row { members, listed }),
+            Sight::Gone => return None,
         }
+        here = members;
     }
+    None
 }
 
 // The number of statements in the value from a place on.
@@ -122,20 +107,14 @@ pub(crate) fn count_rows(text: &[u8], from: Mark) -> usize
     let mut here = from;
     let mut among = Among::Begin;
     let mut count: usize = 0;
-    loop {
-        match next_row(text, here, among) {
-            Row::None => {
-                return count;
-            }
-            Row::Found(behind, listed) => {
-                if listed {
-                    count += 1;
-                    here = behind;
-                    among = Among::Within(0);
-                } else {
-                    return count + 1;
-                }
-            }
+    while let Some(row) = next_row(text, here, among) {
+        count += 1;
+        if row.listed {
+            here = row.members;
+            among = Among::Within(0);
+        } else {
+            return count;
         }
     }
+    count
 }

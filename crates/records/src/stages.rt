@@ -1,11 +1,12 @@
 // Where the reading of a document's wishes stands.
 use crate::conditions::Spot;
+use crate::rows::Row;
 use crate::values::Hold;
 use crate::wishes::Wish;
 use json_text::tokens::Mark;
 
 // What a statement has behind its effect.
-#[derive(Clone, Copy)]
+#[derive(Clone, Copy, Debug, PartialEq, Eq)]
 pub enum Part {
     Principal,
     Action,
@@ -13,7 +14,7 @@ pub enum Part {
     Conditions,
 }
 
-#[derive(Clone, Copy)]
+#[derive(Clone, Copy, Debug, PartialEq, Eq)]
 pub enum Stage {
     // Before the document.
     Begin,
@@ -29,18 +30,18 @@ pub enum Stage {
     Over,
 }
 
-// The stage; the place in the value being read; the statement's members, and whether the statement stands in a list.
-#[derive(Clone, Copy)]
+/// The stage; the place in the value being read; the statement.
+#[derive(Clone, Copy, Debug, PartialEq, Eq)]
 pub struct Cursor {
     pub stage: Stage,
     pub here: Mark,
-    pub row: Mark,
-    pub listed: bool,
+    pub row: Row,
 }
 
-#[derive(Clone, Copy)]
-pub enum Next {
-    // A wish, the place of the value that it comes from, and where to go on.
-    Wish(Wish, usize, Cursor),
-    Done,
+/// A wish, the place of the value that it comes from, and where to go on.
+#[derive(Clone, Copy, Debug, PartialEq, Eq)]
+pub struct Wished {
+    pub wish: Wish,
+    pub place: usize,
+    pub cursor: Cursor,
 }

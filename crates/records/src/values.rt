@@ -7,17 +7,17 @@ ghost use Rattle.records.specs.Machinery.Streams.{values_from};
 ghost use Rattle.records.specs.Machinery.Cursors.{hold_of, heard_string, heard_end, hold_turn, strings_left};
 
 use json_text::events::Event;
-use json_text::tokens::{Mark, Met, next_token};
+use json_text::tokens::{Mark, next_token};
 
 // No list is open; one that began at a place is still empty; one has a string.
-#[derive(Clone, Copy)]
+#[derive(Clone, Copy, Debug, PartialEq, Eq)]
 pub enum Hold {
     Outside,
     Fresh(usize),
     Filled,
 }
 
-#[derive(Clone, Copy)]
+#[derive(Clone, Copy, Debug, PartialEq, Eq)]
 pub enum Heard {
     On(Hold),
     // A string, alone or in a list.
@@ -28,14 +28,13 @@ pub enum Heard {
     Gone,
 }
 
-#[derive(Clone, Copy)]
+#[derive(Clone, Copy, Debug, PartialEq, Eq)]
 pub enum Strings {
     // The place of a string in a list, and where to go on.
     Listed(usize, Mark),
     Alone(usize),
     // The place of an empty list.
     Empty(usize),
-    None,
 }
 
 fn heard_string(hold: Hold) -> Heard
@@ -43,7 +42,7 @@ fn heard_string(hold: Hold) -> Heard
 {
     match hold {
         Hold::Outside => Heard::Alone,
-        Hold::Fresh(place) => Heard::Listed,
+        Hold::Fresh(_) => Heard::Listed,
         Hold::Filled => Heard::Listed,
     }
 }
@@ -52,9 +51,8 @@ fn heard_end(hold: Hold) -> Heard
     ensures { result ≡ heard_end hold }
 {
     match hold {
-        Hold::Outside => Heard::Gone,
         Hold::Fresh(place) => Heard::Empty(place),
-        Hold::Filled => Heard::Gone,
+        Hold::Outside | Hold::Filled => Heard::Gone,
     }
 }
 
@@ -62,48 +60,29 @@ fn hold_turn(hold: Hold, event: Event, at: usize) -> Heard
     ensures { result ≡ hold_turn hold event at }
 {
     match event {
-        Event::Nothing => Heard::On(hold),
-        Event::Name => Heard::On(hold),
+        Event::Name | Event::OpenObject => Heard::On(hold),
         Event::Text => heard_string(hold),
-        Event::Other => Heard::Gone,
         Event::OpenList => Heard::On(Hold::Fresh(at)),
         Event::CloseList => heard_end(hold),
-        Event::OpenObject => Heard::On(hold),
-        Event::CloseObject => Heard::Gone,
+        Event::Other | Event::CloseObject => Heard::Gone,
     }
 }
 
 // The next string of a value, from a place in it on.
-pub(crate) fn next_string(text: &[u8], from: Mark, start: Hold) -> Strings
+pub(crate) fn next_string(text: &[u8], from: Mark, start: Hold) -> Option<Strings>
     ensures { (behind : List Wishes.Wish) → values_from S.Text behind (tokens_at text.now from) (hold_of text.now start) ≡ strings_left text.now behind result }
 {
     let mut here = from;
     let mut hold = start;
-    loop {
-        match next_token(text, here) {
-            Met::None => {
-                return Strings::None;
-            }
-            Met::Token(event, at, behind) => {
-                match hold_turn(hold, event, at) {
-                    Heard::On(further) => {
-                        here = behind;
-                        hold = further;
-                    }
-                    Heard::Alone => {
-                        return Strings::Alone(at);
-                    }
-                    Heard::Listed => {
-                        return Strings::Listed(at, behind);
-                    }
-                    Heard::Empty(place) => {
-                        return Strings::Empty(place);
-                    }
-                    Heard::Gone => {
-                        return Strings::None;
-                    }
-                }
-            }
+    while let Some(token) = next_token(text, here) {
+        match hold_turn(hold, token.event, token.at) {
+            Heard::On(further) => hold = further,
+            Heard::Alone => return Some(Strings::Alone(token.at)),
+            Heard::Listed => return Some(Strings::Listed(token.at, token.behind)),
+            Heard::Empty(place) => return Some(Strings::Empty(place)),
+            Heard::Gone => return None,
         }
+        here = token.behind;
     }
+    None
 }

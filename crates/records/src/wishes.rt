@@ -1,13 +1,15 @@
 // What is wished for: a record, or what stands where none can be made.
-ghost use Rattle.std.specs.Prelude.{◌≡◌};
+ghost use Rattle.std.specs.Prelude.{◌≡◌, suc};
 ghost use Rattle.stored.specs.Operators.{row_of};
+ghost use Rattle.members.specs.Names.{kind_in, index_of_row, index_of_operator, index_of_key};
 ghost use Rattle.records.specs.Documents.{operator_at, key_at, column_at};
 ghost use Rattle.records.specs.Machinery.Cursors.{string_kind};
 
+use members::names::{KeyName, OperatorName, RowName};
 use stored::items::{Column, Effect, Key, Operator, Sort};
 use stored::operators::operator_row;
 
-#[derive(Clone, Copy)]
+#[derive(Clone, Copy, Debug, PartialEq, Eq)]
 pub enum Wish {
     // The number of statements.
     Start(usize),
@@ -25,93 +27,60 @@ pub enum Wish {
     End,
 }
 
-// The column of an element, by the place of its name among those of a statement's members.
-pub(crate) fn column_at(kind: u8) -> Column
-    ensures { result ≡ column_at kind }
+// The column of an element.
+pub(crate) fn column_at(name: RowName) -> Column
+    ensures { result ≡ column_at (suc (index_of_row name)) }
 {
-    if kind == 3 {
-        return Column::Principal;
+    match name {
+        RowName::Principal => Column::Principal,
+        RowName::NotPrincipal => Column::NotPrincipal,
+        RowName::Action => Column::Action,
+        RowName::NotAction => Column::NotAction,
+        RowName::Resource => Column::Resource,
+        RowName::NotResource | RowName::Sid | RowName::Effect | RowName::Condition => {
+            Column::NotResource
+        }
     }
-    if kind == 4 {
-        return Column::NotPrincipal;
-    }
-    if kind == 5 {
-        return Column::Action;
-    }
-    if kind == 6 {
-        return Column::NotAction;
-    }
-    if kind == 7 {
-        return Column::Resource;
-    }
-    Column::NotResource
 }
 
-// An operator, by the place of its name; the second six are the first with IfExists.
-pub(crate) fn operator_at(kind: u8) -> Operator
-    ensures { result ≡ operator_at kind }
+// An operator by its name; what is no name is read as the last.
+pub(crate) fn operator_at(name: Option<OperatorName>) -> Operator
+    ensures { result ≡ operator_at (kind_in index_of_operator name) }
 {
-    if kind == 1 {
-        return Operator::StringEquals;
+    match name {
+        Some(OperatorName::StringEquals) => Operator::StringEquals,
+        Some(OperatorName::StringNotEquals) => Operator::StringNotEquals,
+        Some(OperatorName::StringLike) => Operator::StringLike,
+        Some(OperatorName::StringNotLike) => Operator::StringNotLike,
+        Some(OperatorName::IpAddress) => Operator::IpAddress,
+        Some(OperatorName::NotIpAddress) => Operator::NotIpAddress,
+        Some(OperatorName::StringEqualsIfExists) => Operator::StringEqualsIfExists,
+        Some(OperatorName::StringNotEqualsIfExists) => Operator::StringNotEqualsIfExists,
+        Some(OperatorName::StringLikeIfExists) => Operator::StringLikeIfExists,
+        Some(OperatorName::StringNotLikeIfExists) => Operator::StringNotLikeIfExists,
+        Some(OperatorName::IpAddressIfExists) => Operator::IpAddressIfExists,
+        Some(OperatorName::NotIpAddressIfExists) | None => Operator::NotIpAddressIfExists,
     }
-    if kind == 2 {
-        return Operator::StringNotEquals;
-    }
-    if kind == 3 {
-        return Operator::StringLike;
-    }
-    if kind == 4 {
-        return Operator::StringNotLike;
-    }
-    if kind == 5 {
-        return Operator::IpAddress;
-    }
-    if kind == 6 {
-        return Operator::NotIpAddress;
-    }
-    if kind == 7 {
-        return Operator::StringEqualsIfExists;
-    }
-    if kind == 8 {
-        return Operator::StringNotEqualsIfExists;
-    }
-    if kind == 9 {
-        return Operator::StringLikeIfExists;
-    }
-    if kind == 10 {
-        return Operator::StringNotLikeIfExists;
-    }
-    if kind == 11 {
-        return Operator::IpAddressIfExists;
-    }
-    Operator::NotIpAddressIfExists
 }
 
-pub(crate) fn key_at(kind: u8) -> Key
-    ensures { result ≡ key_at kind }
+// A key by its name; what is no name is read as the last.
+pub(crate) fn key_at(name: Option<KeyName>) -> Key
+    ensures { result ≡ key_at (kind_in index_of_key name) }
 {
-    if kind == 1 {
-        return Key::SourceVpc;
+    match name {
+        Some(KeyName::SourceVpc) => Key::SourceVpc,
+        Some(KeyName::Prefix) => Key::Prefix,
+        Some(KeyName::SourceVpce) => Key::SourceVpce,
+        Some(KeyName::Referer) => Key::Referer,
+        Some(KeyName::SourceIp) | None => Key::SourceIp,
     }
-    if kind == 2 {
-        return Key::Prefix;
-    }
-    if kind == 3 {
-        return Key::SourceVpce;
-    }
-    if kind == 4 {
-        return Key::Referer;
-    }
-    Key::SourceIp
 }
 
 // What a string under an operator is.
 pub(crate) fn string_kind(operator: Operator) -> Wish
     ensures { result ≡ string_kind (row_of operator).sort }
 {
-    let row = operator_row(operator);
-    let sort = row.sort;
-    match sort {
+    match operator_row(operator).sort {
         Sort::Text => Wish::Value,
         Sort::Address => Wish::Network,
     }

@@ -1,5 +1,5 @@
 -- The wishes of a document that a cursor has still to give.
-use Rattle.std.specs.Prelude.{ℕ, ◌+◌, ◌-◌, ◌≤◌, ◌<◌, Bool, false, ◌≡◌, List, [], ◌∷◌, length, drop}
+use Rattle.std.specs.Prelude.{ℕ, ◌+◌, ◌-◌, ◌≤◌, false, Option, Some, None, List, [], ◌∷◌, length, drop}
 use Rattle.json_text.specs.Choice.{pick, same_bytes}
 use Rattle.json_text.specs.Machinery.Pieces.{content_of}
 use Rattle.json_text.specs.Machinery.Tokens.{Token}
@@ -11,14 +11,13 @@ use Rattle.stored.specs.Entries.Entry.{start, statement, column, condition, end}
 use Rattle.stored.specs.declared.items.Effect.TheVariants as Ef
 use Rattle.stored.specs.declared.items.Sort.{Sort}
 use Rattle.stored.specs.declared.items.Sort.TheVariants as So
-use Rattle.members.specs.Members.{operator_kind, key_kind}
+use Rattle.members.specs.Members.{row_kind, operator_kind, key_kind, row_slot}
 use Rattle.records.specs.Documents.{allow_text, deny_text, operator_at, key_at, column_at}
 use Rattle.records.specs.Wishes.{Wish, string_wish}
 use Rattle.records.specs.Wishes.Wish.{made, strange, empty}
 use Rattle.records.specs.Machinery.Walkers.{next_place, seek}
 use Rattle.records.specs.Machinery.Streams as Streams
 use Rattle.records.specs.Machinery.Streams.{values_from, conditions_from, element_from, condition_from, rows_from, document_from}
-use Rattle.records.specs.declared.walking.Table.TheVariants as T
 use Rattle.records.specs.declared.wishes.Wish as Code
 use Rattle.records.specs.declared.wishes.Wish.TheVariants as W
 use Rattle.records.specs.declared.effects.Placed.{Placed}
@@ -33,14 +32,13 @@ use Rattle.records.specs.declared.conditions.Spot.TheVariants as Sp
 use Rattle.records.specs.declared.conditions.Turned.{Turned}
 use Rattle.records.specs.declared.conditions.Turned.TheVariants as Tu
 use Rattle.records.specs.declared.conditions.Said.{Said}
-use Rattle.records.specs.declared.conditions.Said.TheVariants as Sa
+use Rattle.records.specs.declared.rows.Row.{Row}
 use Rattle.records.specs.declared.stages.Part.{Part}
 use Rattle.records.specs.declared.stages.Part.TheVariants as P
 use Rattle.records.specs.declared.stages.Stage.{Stage}
 use Rattle.records.specs.declared.stages.Stage.TheVariants as G
 use Rattle.records.specs.declared.stages.Cursor.{Cursor}
-use Rattle.records.specs.declared.stages.Next.{Next}
-use Rattle.records.specs.declared.stages.Next.TheVariants as N
+use Rattle.records.specs.declared.stages.Wished.{Wished}
 
 -- a wish with its place in the text; a string's bytes stand behind its quote
 abbrev pub wish_of : List ℕ → Code.Wish → ℕ → Wish
@@ -64,7 +62,6 @@ abbrev pub effect_said : List ℕ → Code.Wish
 effect_said bs = pick (same_bytes bs allow_text) (W.Statement Ef.Allow) (pick (same_bytes bs deny_text) (W.Statement Ef.Deny) W.Strange)
 
 abbrev pub effect_by : Event → List ℕ → Code.Wish
-effect_by E.Nothing bs = W.Strange
 effect_by E.Name bs = W.Strange
 effect_by E.Text bs = effect_said bs
 effect_by E.Other bs = W.Strange
@@ -93,7 +90,6 @@ heard_end (H.Fresh p) = Hd.Empty p
 heard_end H.Filled = Hd.Gone
 
 abbrev pub hold_turn : Hold → Event → ℕ → Heard
-hold_turn h E.Nothing at = Hd.On h
 hold_turn h E.Name at = Hd.On h
 hold_turn h E.Text at = heard_string h
 hold_turn h E.Other at = Hd.Gone
@@ -102,11 +98,11 @@ hold_turn h E.CloseList at = heard_end h
 hold_turn h E.OpenObject at = Hd.On h
 hold_turn h E.CloseObject at = Hd.Gone
 
-abbrev pub strings_left : List ℕ → List Wish → Strings → List Wish
-strings_left t behind (St.Listed p m) = wish_of t W.Value p ∷ values_from So.Text behind (tokens_at t m) Streams.Hold.filled
-strings_left t behind (St.Alone p) = wish_of t W.Value p ∷ behind
-strings_left t behind (St.Empty p) = wish_of t W.Empty p ∷ behind
-strings_left t behind St.None = behind
+abbrev pub strings_left : List ℕ → List Wish → Option Strings → List Wish
+strings_left t behind (Some (St.Listed p m)) = wish_of t W.Value p ∷ values_from So.Text behind (tokens_at t m) Streams.Hold.filled
+strings_left t behind (Some (St.Alone p)) = wish_of t W.Value p ∷ behind
+strings_left t behind (Some (St.Empty p)) = wish_of t W.Empty p ∷ behind
+strings_left t behind None = behind
 
 -- the conditions
 abbrev pub spot_of : List ℕ → Spot → Streams.Spot
@@ -180,7 +176,6 @@ object_end_turn (Sp.EmptyList o p) = Tu.Gone
 object_end_turn (Sp.FilledList o) = Tu.Gone
 
 abbrev pub spot_turn : Spot → Event → ℕ → List ℕ → Turned
-spot_turn p E.Nothing at x = Tu.On p
 spot_turn p E.Name at x = name_turn p x
 spot_turn p E.Text at x = text_turn p
 spot_turn p E.Other at x = Tu.Gone
@@ -189,69 +184,67 @@ spot_turn p E.CloseList at x = list_end_turn p
 spot_turn p E.OpenObject at x = object_turn p
 spot_turn p E.CloseObject at x = object_end_turn p
 
-abbrev pub said_left : List ℕ → List Wish → Said → List Wish
-said_left t behind (Sa.Wish w p m s) = wish_of t w p ∷ conditions_from behind (tokens_at t m) (spot_of t s)
-said_left t behind Sa.None = behind
+abbrev pub said_left : List ℕ → List Wish → Option Said → List Wish
+said_left t behind (Some x) = wish_of t x.wish x.place ∷ conditions_from behind (tokens_at t x.here) (spot_of t x.spot)
+said_left t behind None = behind
 
 -- the end of a table
 abbrev pub last : List Wish
 last = made 0 end ∷ []
 
--- what comes behind a statement, whose members stand at a place
-abbrev pub behind_row : List ℕ → Mark → Bool → List Wish
-behind_row t row listed = pick listed (rows_from last (tokens_at t row) (Streams.Among.inside 1)) last
+-- what comes behind a statement
+abbrev pub behind_row : List ℕ → Row → List Wish
+behind_row t row = pick row.listed (rows_from last (tokens_at t row.members) (Streams.Among.inside 1)) last
 
 -- an element whose value has these tokens
 abbrev pub column_from : ℕ → List Token → List Wish → List Wish
 column_from kind ts r = made (next_place ts) (column (column_at kind)) ∷ values_from So.Text r ts Streams.Hold.outside
 
 -- what comes from a part of a statement on
-abbrev pub conditions_left : List ℕ → Mark → Bool → List Wish
-conditions_left t row listed = condition_from (seek T.Row 6 (tokens_at t row) 0) (behind_row t row listed)
+abbrev pub conditions_left : List ℕ → Row → List Wish
+conditions_left t row = condition_from (seek row_kind row_slot 6 (tokens_at t row.members) 0) (behind_row t row)
 
-abbrev pub resource_left : List ℕ → Mark → Bool → List Wish
-resource_left t row listed = element_from (seek T.Row 5 (tokens_at t row) 0) (conditions_left t row listed)
+abbrev pub resource_left : List ℕ → Row → List Wish
+resource_left t row = element_from (seek row_kind row_slot 5 (tokens_at t row.members) 0) (conditions_left t row)
 
-abbrev pub action_left : List ℕ → Mark → Bool → List Wish
-action_left t row listed = element_from (seek T.Row 4 (tokens_at t row) 0) (resource_left t row listed)
+abbrev pub action_left : List ℕ → Row → List Wish
+action_left t row = element_from (seek row_kind row_slot 4 (tokens_at t row.members) 0) (resource_left t row)
 
-abbrev pub principal_left : List ℕ → Mark → Bool → List Wish
-principal_left t row listed = element_from (seek T.Row 3 (tokens_at t row) 0) (action_left t row listed)
+abbrev pub principal_left : List ℕ → Row → List Wish
+principal_left t row = element_from (seek row_kind row_slot 3 (tokens_at t row.members) 0) (action_left t row)
 
-abbrev pub part_left : List ℕ → Mark → Bool → Part → List Wish
-part_left t row listed P.Principal = principal_left t row listed
-part_left t row listed P.Action = action_left t row listed
-part_left t row listed P.Resource = resource_left t row listed
-part_left t row listed P.Conditions = conditions_left t row listed
+abbrev pub part_left : List ℕ → Row → Part → List Wish
+part_left t row P.Principal = principal_left t row
+part_left t row P.Action = action_left t row
+part_left t row P.Resource = resource_left t row
+part_left t row P.Conditions = conditions_left t row
 
 -- what comes from a stage on
-abbrev pub stage_left : List ℕ → Mark → Mark → Bool → Stage → List Wish
-stage_left t here row listed G.Begin = document_from (tokens_at t here)
-stage_left t here row listed G.Rows = rows_from last (tokens_at t here) Streams.Among.begin
-stage_left t here row listed (G.Parts p) = part_left t row listed p
-stage_left t here row listed (G.Values p h) = values_from So.Text (part_left t row listed p) (tokens_at t here) (hold_of t h)
-stage_left t here row listed (G.Conditions s) = conditions_from (behind_row t row listed) (tokens_at t here) (spot_of t s)
-stage_left t here row listed G.End = last
-stage_left t here row listed G.Over = []
+abbrev pub stage_left : List ℕ → Mark → Row → Stage → List Wish
+stage_left t here row G.Begin = document_from (tokens_at t here)
+stage_left t here row G.Rows = rows_from last (tokens_at t here) Streams.Among.begin
+stage_left t here row (G.Parts p) = part_left t row p
+stage_left t here row (G.Values p h) = values_from So.Text (part_left t row p) (tokens_at t here) (hold_of t h)
+stage_left t here row (G.Conditions s) = conditions_from (behind_row t row) (tokens_at t here) (spot_of t s)
+stage_left t here row G.End = last
+stage_left t here row G.Over = []
 
 -- the wishes from a cursor on
 abbrev pub wishes_left : List ℕ → Cursor → List Wish
-wishes_left t c = stage_left t c.here c.row c.listed c.stage
+wishes_left t c = stage_left t c.here c.row c.stage
 
-abbrev pub next_wishes : List ℕ → Next → List Wish
-next_wishes t (N.Wish w p c) = wish_of t w p ∷ wishes_left t c
-next_wishes t N.Done = []
+-- a wish, and those behind it
+abbrev pub wished_left : List ℕ → Wished → List Wish
+wished_left t x = wish_of t x.wish x.place ∷ wishes_left t x.cursor
+
+abbrev pub next_wishes : List ℕ → Option Wished → List Wish
+next_wishes t (Some x) = wished_left t x
+next_wishes t None = []
 
 abbrev pub first_cursor : Cursor
-first_cursor = record { stage = G.Begin; here = start_mark; row = start_mark; listed = false }
-
--- a place, or the end where it lies behind that
-pub record Clipped (size from to : ℕ) : Type 0 where
-  pub inside : to ≤ size
-  pub kept : from ≤ size → to ≡ from
-  pub cut : size < from → to ≡ size
+first_cursor = record { stage = G.Begin; here = start_mark; row = record { members = start_mark; listed = false } }
 
 -- a wish's place is in the text or at its end
-abbrev pub Inside : ℕ → Next → Type 0
-Inside size (N.Wish w p c) = p ≤ size
-Inside size N.Done = Unit {0}
+abbrev pub Inside : ℕ → Option Wished → Type 0
+Inside size (Some x) = x.place ≤ size
+Inside size None = Unit {0}

@@ -1,5 +1,5 @@
 -- The statements of a document, from its tokens as they come: the next one.
-use Rattle.std.specs.Prelude.{ℕ, suc, ◌+◌, ◌-◌, ◌≤◌, ◌<◌, Bool, true, false, List, [], ◌∷◌, eqb}
+use Rattle.std.specs.Prelude.{ℕ, suc, ◌+◌, ◌-◌, ◌≤◌, ◌<◌, Bool, true, false, Option, Some, None, List, [], ◌∷◌, eqb}
 use Rattle.json_text.specs.Choice.{pick}
 use Rattle.json_text.specs.Machinery.Tokens.{Token}
 use Rattle.json_text.specs.Machinery.Marks.{tokens_at}
@@ -12,7 +12,6 @@ use Rattle.records.specs.declared.rows.Among.TheVariants as A
 use Rattle.records.specs.declared.rows.Sight.{Sight}
 use Rattle.records.specs.declared.rows.Sight.TheVariants as S
 use Rattle.records.specs.declared.rows.Row.{Row}
-use Rattle.records.specs.declared.rows.Row.TheVariants as R
 
 -- in the words of the stream of wishes
 abbrev pub among_of : Among → Streams.Among
@@ -42,7 +41,6 @@ object A.Between = S.Statement true
 object (A.Within d) = S.On (A.Within (d + 1))
 
 abbrev pub among_turn : Among → Event → Sight
-among_turn a E.Nothing = S.On a
 among_turn a E.Name = S.On a
 among_turn a E.Text = S.On a
 among_turn a E.Other = S.On a
@@ -66,11 +64,11 @@ row_in [] a = none
 row_in (x ∷ ts) a = after_sight (row_in ts) ts (among_turn a (kind_of x))
 
 -- what a place in a text says
-abbrev pub sighted : List ℕ → Row → Sighted
-sighted t (R.Found m listed) = seen (tokens_at t m) listed
-sighted t R.None = none
+abbrev pub sighted : List ℕ → Option Row → Sighted
+sighted t (Some row) = seen (tokens_at t row.members) row.listed
+sighted t None = none
 
 -- a statement begins behind the place asked for
-abbrev pub RowAhead : ℕ → ℕ → Row → Type 0
-RowAhead from size (R.Found m listed) = (from < m.at) × (m.at ≤ size)
-RowAhead from size R.None = Unit {0}
+abbrev pub RowAhead : ℕ → ℕ → Option Row → Type 0
+RowAhead from size (Some row) = (from < row.members.at) × (row.members.at ≤ size)
+RowAhead from size None = Unit {0}

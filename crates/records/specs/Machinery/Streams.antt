@@ -8,12 +8,11 @@ use Rattle.stored.specs.declared.items.Operator.{Operator}
 use Rattle.stored.specs.declared.items.Key.{Key}
 use Rattle.stored.specs.declared.items.Sort.{Sort}
 use Rattle.stored.specs.declared.items.Sort.TheVariants as S
-use Rattle.members.specs.Members.{operator_kind, key_kind}
+use Rattle.members.specs.Members.{top_kind, row_kind, operator_kind, key_kind, row_slot, itself}
 use Rattle.records.specs.Documents.{operator_at, key_at, column_at}
 use Rattle.records.specs.Wishes.{Wish, string_wish, effect_wish}
 use Rattle.records.specs.Wishes.Wish.{made, empty}
 use Rattle.records.specs.Machinery.Walkers.{Sought, next_place, seek}
-use Rattle.records.specs.declared.walking.Table.TheVariants as W
 
 -- no list is open; one that began at a place is still empty; one has a string
 pub data Hold : Type 0 where
@@ -151,11 +150,11 @@ condition_from (Sought.found k ts) r = conditions_from r ts before
 -- one statement, from the tokens of its members, then others
 abbrev pub row_from : List Token → List Wish → List Wish
 row_from ts r =
-    effect_from (seek W.Row 2 ts 0)
-    ∷ element_from (seek W.Row 3 ts 0)
-    (element_from (seek W.Row 4 ts 0)
-    (element_from (seek W.Row 5 ts 0)
-    (condition_from (seek W.Row 6 ts 0) r)))
+    effect_from (seek row_kind row_slot 2 ts 0)
+    ∷ element_from (seek row_kind row_slot 3 ts 0)
+    (element_from (seek row_kind row_slot 4 ts 0)
+    (element_from (seek row_kind row_slot 5 ts 0)
+    (condition_from (seek row_kind row_slot 6 ts 0) r)))
 
 -- the statements: before them, or so many brackets inside their list
 pub data Among : Type 0 where
@@ -224,5 +223,5 @@ document_from (text n x ∷ ts) = []
 document_from (other n ∷ ts) = []
 document_from (open-list n ∷ ts) = []
 document_from (close-list n ∷ ts) = []
-document_from (open-object n ∷ ts) = statement_from (seek W.Top 2 ts 0)
+document_from (open-object n ∷ ts) = statement_from (seek top_kind itself 2 ts 0)
 document_from (close-object n ∷ ts) = []
