@@ -1,6 +1,6 @@
 -- A row that has none of the last positions of a plan's values runs over the plan like a row of no position: the run looks only there.
 use Prim.Native.Nat.{ℕ, zero, suc, ◌+◌, ◌-◌, ◌/◌, ◌%◌, ◌^◌, ◌<◌, ◌≤◌}
-use mathlib.Core.Path.{◌≡◌, refl, sym, ap, ap₂, ◌∙◌}
+use mathlib.Core.Path.{◌≡◌, refl, sym, ap, ◌∙◌}
 use mathlib.Core.Bool.{Bool, true, false, not, ◌&&◌, ◌||◌, false≢true, and-true}
 use mathlib.Core.List.{List, [], ◌∷◌}
 use mathlib.Core.Logic.{◌⊎◌, inl, inr}
@@ -8,9 +8,10 @@ use native.Mathlib.Numerals.{add-one}
 use native.Mathlib.Omega.{arith}
 use lib.Bits.{bit_and, bit_or, or_comm}
 use lib.Dec.{eqb, ltb}
-use lib.ListN.{length, get_or, take, drop, set, length-set, length-take, drop_of_length-le, get_or-eq_default}
-use lib.Seq.{slice, slice-cons, drop-cons, get_or-set_same}
-use borrow.Author.Tests.{eq-eqb, ne_eqb, eqb-true}
+use lib.ListN.{length, get_or, drop, set, length-set, get_or-eq_default}
+use lib.Seq.{drop-cons, get_or-set_same}
+use Rattle.std.specs.List.{list_any, zip}
+use borrow.Author.Tests.{eq-eqb, eqb-true}
 use Rattle.stored.specs.Choice.{pick}
 use Rattle.matching.specs.Machinery.Rows.{word_bit, row_bit, mark_row}
 use Rattle.matching.proofs.Rows.{below_or_not, row_zero}
@@ -88,32 +89,15 @@ last-keeps : (plan row : List ℕ) (q : ℕ) → row_bit row q ≡ true → row_
 last-keeps [] row q e = e
 last-keeps (word ∷ plan) row q e = last-keeps plan (word_marked row word) q (marks-keep row word q e)
 
--- the words between two places of the workspace
-module _ (row words : List ℕ) (i to : ℕ) where
-  pub marked_next : i < to → to ≤ length words → last_positions row (slice i to words) ≡ last_positions (word_marked row (get_or words i 0)) (slice (i + 1) to words)
-  marked_next low room = ap (last_positions row) (slice-cons i to words 0 low room) ∙ rw add-one
+-- the words left, one after the other
+pub marked_next : (row plan : List ℕ) (i : ℕ) → i < length plan → last_positions row (drop i plan) ≡ last_positions (word_marked row (get_or plan i 0)) (drop (i + 1) plan)
+marked_next row plan i low = ap (last_positions row) (drop-cons plan i 0 low) ∙ rw add-one
 
-  pub marked-none : to ≤ i → last_positions row (slice i to words) ≡ row
-  marked-none high = ap (last_positions row) (drop_of_length-le (take to words) {i = i} (omega (arith, length-take to words)))
-
--- two rows from a word on
-module _ (row others : List ℕ) (i : ℕ) where
-  module _ (low : i < length row) (also : i < length others) where
-    meet-next : rows_meet (drop i row) (drop i others) ≡ (not (eqb (bit_and (get_or row i 0) (get_or others i 0)) 0) || rows_meet (drop (suc i) row) (drop (suc i) others))
-    meet-next = ap₂ rows_meet (drop-cons row i 0 low) (drop-cons others i 0 also)
-
-    pub meet-here : (bit_and (get_or row i 0) (get_or others i 0) ≡ 0 → ⊥) → rows_meet (drop i row) (drop i others) ≡ true
-    meet-here some =
-        meet-next ∙ ap (λ (t : Bool). not t || rows_meet (drop (suc i) row) (drop (suc i) others)) (ne_eqb (bit_and (get_or row i 0) (get_or others i 0)) 0 some)
-
-    pub meet-on : bit_and (get_or row i 0) (get_or others i 0) ≡ 0 → rows_meet (drop (i + 1) row) (drop (i + 1) others) ≡ rows_meet (drop i row) (drop i others)
-    meet-on none =
-        ap (λ (n : ℕ). rows_meet (drop n row) (drop n others)) (add-one i)
-        ∙ sym
-        (meet-next ∙ ap (λ (t : Bool). not t || rows_meet (drop (suc i) row) (drop (suc i) others)) (eq-eqb (bit_and (get_or row i 0) (get_or others i 0)) 0 none))
-
-  pub meet-none : length row ≤ i → rows_meet (drop i row) (drop i others) ≡ false
-  meet-none high = ap (λ (l : List ℕ). rows_meet l (drop i others)) (drop_of_length-le row {i = i} high)
+-- two rows, word by word
+pub meet-any : (row others : List ℕ) → list_any (λ (p : ℕ × ℕ). not (eqb (bit_and p.0 p.1) 0)) (zip row others) ≡ rows_meet row others
+meet-any [] others = refl
+meet-any (a ∷ row) [] = refl
+meet-any (a ∷ row) (b ∷ others) = ap (λ (t : Bool). not (eqb (bit_and a b) 0) || t) (meet-any row others)
 
 -- a row has none of the positions of another
 abbrev Apart : List ℕ → List ℕ → Type 0

@@ -7,8 +7,8 @@ use mathlib.Core.List.{List, [], ◌∷◌}
 use native.Mathlib.Numerals.{add-one}
 use native.Mathlib.Omega.{arith}
 use lib.Dec.{eqb, ltb}
-use lib.ListN.{length, get_or, take, length-take, drop_of_length-le}
-use lib.Seq.{slice, slice-cons}
+use lib.ListN.{length, get_or, drop}
+use lib.Seq.{drop-cons}
 use lib.Pow.{pow_pos}
 use borrow.Author.Tests.{le-ltb}
 use Rattle.stored.specs.Choice.{pick}
@@ -45,14 +45,10 @@ module _ (x : ℕ) where
   edge-most [] = omega arith
   edge-most (word ∷ plan) = omega (arith, edge-most plan)
 
-  -- the words between two places of the workspace, one after the other
-  pub edge-next : (words : List ℕ) (i to : ℕ) → i < to → to ≤ length words
-      → edge_in (slice i to words) x
-      ≡ min (pick (ltb (get_or words i 0) 4) (2 ^ 32) (edge_of (get_or words i 0 - 4) x)) (edge_in (slice (i + 1) to words) x)
-  edge-next words i to low room = ap (λ (l : List ℕ). edge_in l x) (slice-cons i to words 0 low room) ∙ rw add-one
-
-  pub edge_none : (words : List ℕ) (i to : ℕ) → to ≤ i → edge_in (slice i to words) x ≡ 2 ^ 32
-  edge_none words i to high = ap (λ (l : List ℕ). edge_in l x) (drop_of_length-le (take to words) {i = i} (omega (arith, length-take to words)))
+  -- the words left, one after the other
+  pub edge-next : (plan : List ℕ) (i : ℕ) → i < length plan
+      → edge_in (drop i plan) x ≡ min (pick (ltb (get_or plan i 0) 4) (2 ^ 32) (edge_of (get_or plan i 0 - 4) x)) (edge_in (drop (i + 1) plan) x)
+  edge-next plan i low = ap (λ (l : List ℕ). edge_in l x) (drop-cons plan i 0 low) ∙ rw add-one
 
   -- a word that is no network
   list-passed : (here negated : Bool) (plan : List ℕ) → edge_in (with_word here (list_word negated) plan) x ≡ edge_in plan x

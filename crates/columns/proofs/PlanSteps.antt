@@ -1,14 +1,14 @@
 -- A plan as a loop over the records lays it down: a record adds its word, if any, and the rest is the plan of what is left behind it.
-use Prim.Native.Nat.{ℕ, ◌+◌, ◌≤◌, ◌<◌}
+use Prim.Native.Nat.{ℕ, ◌+◌, ◌-◌, ◌≤◌, ◌<◌}
 use mathlib.Core.Path.{◌≡◌, refl, sym, ap, ◌∙◌}
 use mathlib.Core.Bool.{Bool, true, false, not, ◌&&◌}
 use mathlib.Core.List.{List, [], ◌∷◌, ◌++◌}
 use native.Mathlib.Numerals.{add-one}
 use native.Mathlib.Omega.{arith}
 use lib.Dec.{eqb}
-use lib.ListN.{length, get_or, take, drop, length-take, drop_of_length-le}
-use lib.Seq.{slice, slice-cons}
-use borrow.Author.Tests.{ne_eqb}
+use lib.ListN.{length, get_or, take, drop}
+use lib.Seq.{drop-cons}
+use borrow.Author.Tests.{ne_eqb, lt-ltb, le-ltb}
 use Rattle.stored.specs.Choice.{pick}
 use Rattle.stored.specs.Items.{column_place, column_negated, key_code}
 use Rattle.stored.specs.Operators.{row_of}
@@ -21,19 +21,24 @@ use Rattle.stored.proofs.Walking.{body-length, goes_on_lem, ends-cut, ends-stran
 use Rattle.columns.specs.declared.contents.ListAt.{ListAt}
 use Rattle.columns.specs.declared.runs.Run.{Run}
 use Rattle.columns.specs.Machinery.Lists.{moved_of, positions_of}
-use Rattle.columns.specs.Machinery.Plan.{run_word, run_plan, list_word, value_word, network_word, with_word, plan_from, item_word, word_alone}
+use Rattle.columns.specs.Machinery.Plan.{statement_word, began_run, opened_run, seen_run, run_word, run_plan, list_word, value_word, network_word, with_word, plan_from, item_word, word_alone}
 
 -- a word that is there
 pub word-alone : (word : ℕ) → (word ≡ 0 → ⊥) → word_alone word ≡ word ∷ []
 word-alone word some = rw (ne_eqb word 0 some)
 
--- a run over the words between two places of the workspace
-module _ (hits : ℕ → Bool) (r : Run) (words : List ℕ) (i to : ℕ) where
-  pub run-next : i < to → to ≤ length words → run_plan hits r (slice i to words) ≡ run_plan hits (run_word hits r (get_or words i 0)) (slice (i + 1) to words)
-  run-next low room = ap (run_plan hits r) (slice-cons i to words 0 low room) ∙ rw add-one
+-- a run over the words left, one after the other
+module _ (hits : ℕ → Bool) (r : Run) where
+  pub run-next : (plan : List ℕ) (i : ℕ) → i < length plan → run_plan hits r (drop i plan) ≡ run_plan hits (run_word hits r (get_or plan i 0)) (drop (i + 1) plan)
+  run-next plan i low = ap (run_plan hits r) (drop-cons plan i 0 low) ∙ rw add-one
 
-  pub run_none : to ≤ i → run_plan hits r (slice i to words) ≡ r
-  run_none high = ap (run_plan hits r) (drop_of_length-le (take to words) {i = i} (omega (arith, length-take to words)))
+  pub word-opens : (word : ℕ) → word < 4 → run_word hits r word ≡ pick (eqb word statement_word) (began_run r) (opened_run (eqb word 3) r)
+  unfolding run_word
+  word-opens word low = rw (lt-ltb word 4 low)
+
+  pub word-seen : (word : ℕ) → 4 ≤ word → run_word hits r word ≡ seen_run (hits (word - 4)) r
+  unfolding run_word
+  word-seen word high = rw (le-ltb word 4 high)
 
 -- the plan of what is left from a place on, given the list at hand
 abbrev pub plan_left : ℕ → Bool → ListAt → ℕ → List ℕ → ℕ → List ℕ

@@ -2,7 +2,7 @@
 -- plans of both.
 use Prim.Native.Nat.{ℕ, suc, ◌+◌, ◌*◌, ◌%◌, ◌^◌, ◌<◌, ◌≤◌}
 use mathlib.Core.Path.{◌≡◌, sym, ap, ap₂, subst, ◌∙◌}
-use mathlib.Core.Bool.{true, false}
+use mathlib.Core.Bool.{Bool, true, false}
 use mathlib.Core.List.{List, [], ◌++◌, append-nil}
 use native.Mathlib.Nat.{mul-le-mul_right, suc-mul, mul_comm}
 use native.Mathlib.Omega.{arith}
@@ -10,7 +10,7 @@ use lib.ListN.{length}
 use lib.Pow.{pow-add, pow_mono, shl_exact}
 use Rattle.stored.specs.Entries.{Entry, entries_of}
 use Rattle.stored.specs.Machinery.Following.{Accepted}
-use Rattle.stored.specs.Tables.{table_of}
+use Rattle.stored.specs.Tables.{Statement, table_of}
 use Rattle.matching.specs.Machinery.Codes.{codes_of}
 use Rattle.matching.specs.Machinery.Rows.{row_bit, row_of}
 use Rattle.judging.specs.Requests.{text, number}
@@ -49,6 +49,23 @@ join-fits own other size low few high =
 pub join_is : (own other size : ℕ) → size ≤ 32 → other < 2 ^ 32 → own + other * 2 ^ size % 2 ^ 64 ≡ own + 2 ^ size * other
 join_is own other size few high =
     ap (λ (n : ℕ). own + n) (shl_exact 32 size 64 high (omega arith) ∙ mul_comm other (2 ^ size))
+
+-- The rows of each of two tables that pass a test fit into one word, and this word is the rows of both.
+module _ (test : Statement → Bool) (first second : List Statement) (size own other : ℕ)
+    (rows : size ≡ length first) (few : length first ≤ 32) (more : length second ≤ 32)
+    (own_is : own ≡ rows_word test first) (other-is : other ≡ rows_word test second) where
+  pub both-fit : (own < 2 ^ size) × (size ≤ 32) × (other < 2 ^ 32)
+  both-fit = (
+    subst (λ (n : ℕ). n < 2 ^ size) (sym own_is) (below test first size (omega arith)),
+    omega arith,
+    subst (λ (n : ℕ). n < 2 ^ 32) (sym other-is) (below test second 32 more),
+  )
+
+  pub both-print : own + 2 ^ size * other ≡ rows_word test (first ++ second)
+  both-print =
+      ap₂ (λ (m n : ℕ). m + 2 ^ size * n) own_is other-is
+      ∙ ap (λ (n : ℕ). rows_word test first + 2 ^ n * rows_word test second) rows
+      ∙ sym (joined test first second)
 
 -- The rows of each of two tables that hold for a string, by the walk with the string's state: the positions of the second table's values
 -- begin behind those of the first's.
@@ -103,20 +120,13 @@ module _ (first second : List ℕ) (size column : ℕ) (words row : List ℕ) (p
   pub sides-fit : IsReached (codes_of (values_in column (rows_of first ++ rows_of second))) row → (own < 2 ^ size) × (size ≤ 32) × (other < 2 ^ 32)
   sides-fit (s, is) =
       let found = sides s is in
-      let test = holds column (text s) in (
-        subst (λ (n : ℕ). n < 2 ^ size) (sym found.0) (below test (rows_of first) size (omega (arith, read.rows))),
-        omega (arith, read.rows, read.few),
-        subst (λ (n : ℕ). n < 2 ^ 32) (sym found.1) (below test (rows_of second) 32 read.more),
-      )
+      both-fit (holds column (text s)) (rows_of first) (rows_of second) size own other read.rows read.few read.more found.0 found.1
 
   pub sides-print : (s : List ℕ) → row_of (codes_of (values_in column (rows_of first ++ rows_of second))) s ≡ row
       → own + 2 ^ size * other ≡ rows_word (holds column (text s)) (rows_of first ++ rows_of second)
   sides-print s is =
       let found = sides s is in
-      let test = holds column (text s) in
-      ap₂ (λ (m n : ℕ). m + 2 ^ size * n) found.0 found.1
-      ∙ ap (λ (n : ℕ). rows_word test (rows_of first) + 2 ^ n * rows_word test (rows_of second)) read.rows
-      ∙ sym (joined test (rows_of first) (rows_of second))
+      both-print (holds column (text s)) (rows_of first) (rows_of second) size own other read.rows read.few read.more found.0 found.1
 
 -- A state that has none of the last positions: the rows that were worked out for no position are those by the plans.
 pub none-met : (words row : List ℕ) (prints : Prints) → length row ≡ 8 → prints ≡ prints_of words prints.plans → rows_meet row prints.ends ≡ false
@@ -131,6 +141,7 @@ none-met words row prints wide found none =
     )
 
 -- The rows of a table that hold for an address, by the plan of column 7.
-pub address-side : (x : ℕ) (es : List Entry) → length (table_of es) ≤ 32
-    → done_run (run_plan (in_network x) fresh_run (plan_of 7 false 0 es)) ≡ rows_word (holds 7 (number x)) (table_of es)
-address-side x es few = plan-finds x es ∙ walk-means false 7 (number x) es (omega arith)
+pub address-side : (x : ℕ) (es : List Entry) (plan : List ℕ) → plan ≡ plan_of 7 false 0 es → length (table_of es) ≤ 32
+    → done_run (run_plan (in_network x) fresh_run plan) ≡ rows_word (holds 7 (number x)) (table_of es)
+address-side x es plan is few =
+    ap (λ (l : List ℕ). done_run (run_plan (in_network x) fresh_run l)) is ∙ plan-finds x es ∙ walk-means false 7 (number x) es (omega arith)

@@ -1,9 +1,10 @@
 // The plan of a column, laid down in the workspace by one walk over the records of a table: what decides which rows hold, and nothing else.
 ghost use Rattle.std.specs.Prelude.{◌≡◌, not, ◌&&◌, ◌+◌, ◌-◌, ◌^◌, ◌<◌, ◌≤◌, length};
 ghost use Rattle.std.proofs.lemmas.List.Edits.{sets};
+ghost use Rattle.std.proofs.Math.Seq.{slice};
 ghost use Rattle.stored.specs.Choice.{pick};
 ghost use Rattle.stored.specs.Entries.{entries_of};
-ghost use Rattle.states.specs.Machinery.Rows.{prints_at};
+ghost use Rattle.states.specs.Machinery.Rows.{codes_at, prints_at};
 ghost use Rattle.columns.specs.Machinery.Plan.{list_word, value_word, network_word, item_word, word_alone, plan_of, PlansFit, LaysPlans};
 
 use crate::contents::{fresh_list, moved, positions_of};
@@ -15,10 +16,36 @@ use stored::operators::operator_row;
 use stored::records::{Record, record_at};
 
 // Where the plans of two tables lie: the first's from CODES on, up to where the second's begins, and that one's end.
-#[derive(Clone, Copy)]
+#[derive(Clone, Copy, Debug, PartialEq, Eq)]
 pub struct Plans {
     pub middle: usize,
     pub end: usize,
+}
+
+// The words between two places, none where the second is the lower.
+fn between(words: &[u64], from: usize, to: usize) -> &[u64]
+    requires { to ≤ length words.now }
+    ensures { result.now ≡ slice from to words.now }
+{
+    words[..to].get(from..).unwrap_or(&[])
+}
+
+impl Plans {
+    // The plan of the first table.
+    pub(crate) fn own(self, words: &[u64]) -> &[u64]
+        requires { self.middle ≤ length words.now }
+        ensures { result.now ≡ slice codes_at self.middle words.now }
+    {
+        between(words, CODES, self.middle)
+    }
+
+    // The plan of the second.
+    pub(crate) fn other(self, words: &[u64]) -> &[u64]
+        requires { self.end ≤ length words.now }
+        ensures { result.now ≡ slice self.middle self.end words.now }
+    {
+        between(words, self.middle, self.end)
+    }
 }
 
 // No word.

@@ -18,11 +18,10 @@ use crate::plan::Plans;
 use crate::runs::{address_rows, text_rows};
 use crate::tables::Tables;
 use judging::rows::rows_in;
-use states::limits::CODES;
 
 // What is worked out once for all states of a column of strings: where the plans lie, the last positions of their values, and the rows of
 // each table that hold for a state that has none of these.
-#[derive(Clone, Copy)]
+#[derive(Clone, Copy, Debug, PartialEq, Eq)]
 pub struct Prints {
     pub plans: Plans,
     pub ends: [u64; 8],
@@ -54,9 +53,8 @@ pub fn address_print(words: &[u64], tables: Tables, plans: Plans, x: u64) -> u64
     requires { AddressPlans tables.first.now tables.second.now words.now plans × (prints_at ≤ length words.now) }
     ensures { result ≡ rows_word (holds 7 (number x)) (rows_of tables.entry.first.now ++ rows_of tables.entry.second.now) }
 {
-    let middle = plans.middle;
-    let own = address_rows(words, CODES, middle, x);
-    let other = address_rows(words, middle, plans.end, x);
+    let own = address_rows(plans.own(words), x);
+    let other = address_rows(plans.other(words), x);
     joined(own, other, tables.size)
 }
 
@@ -65,17 +63,13 @@ pub fn prints_of(words: &[u64], plans: Plans) -> Prints
     requires { (plans.middle ≤ length words.now) × (plans.end ≤ length words.now) }
     ensures { result ≡ prints_of words.now plans }
 {
-    let middle = plans.middle;
-    let end = plans.end;
-    let some = last_positions(words, CODES, middle, [0u64; 8]);
-    let ends = last_positions(words, middle, end, some);
-    let own = text_rows(words, CODES, middle, [0u64; 8]);
-    let other = text_rows(words, middle, end, [0u64; 8]);
+    let own_plan = plans.own(words);
+    let other_plan = plans.other(words);
     Prints {
-        plans: plans,
-        ends: ends,
-        own: own,
-        other: other,
+        plans,
+        ends: last_positions(other_plan, last_positions(own_plan, [0u64; 8])),
+        own: text_rows(own_plan, [0u64; 8]),
+        other: text_rows(other_plan, [0u64; 8]),
     }
 }
 
@@ -94,11 +88,9 @@ pub fn state_print(
     ensures { (s : List ℕ) → row_of (codes_of (values_in column (rows_of tables.entry.first.now ++ rows_of tables.entry.second.now))) s ≡ row
         → result ≡ rows_word (holds column (text s)) (rows_of tables.entry.first.now ++ rows_of tables.entry.second.now) }
 {
-    let ends = prints.ends;
-    if rows_meet(row, ends) {
-        let middle = prints.plans.middle;
-        let own = text_rows(words, CODES, middle, row);
-        let other = text_rows(words, middle, prints.plans.end, row);
+    if rows_meet(row, prints.ends) {
+        let own = text_rows(prints.plans.own(words), row);
+        let other = text_rows(prints.plans.other(words), row);
         return joined(own, other, tables.size);
     }
     joined(prints.own, prints.other, tables.size)

@@ -12,7 +12,7 @@ use Rattle.stored.specs.declared.machine.State.{State}
 use Rattle.stored.specs.declared.machine.Turn.{Turn}
 use Rattle.stored.specs.declared.machine.Turn.TheVariants as T
 use Rattle.stored.specs.Entries.{Entry, entries_of}
-use Rattle.stored.specs.Machinery.Following.{admit, Follows, Accepted}
+use Rattle.stored.specs.Machinery.Following.{admit, Follows}
 use Rattle.judging.specs.Judging.{rows_of}
 use Rattle.columns.specs.Machinery.Both.{BothRead}
 

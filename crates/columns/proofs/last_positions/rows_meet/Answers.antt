@@ -1,22 +1,14 @@
-use mathlib.Core.Path.{sym, ◌∙◌}
-use native.Mathlib.Omega.{arith}
-use Rattle.columns.proofs.LastPositions.{meet-here, meet-on, meet-none}
+-- Some word of one row meets the word of the other that stands beside it.
+use Rattle.std.proofs.Common.{ℕ, not, eqb, rules, ◌∙◌}
+use Rattle.std.specs.Int.Bits.{bit_and}
+use Rattle.std.proofs.lemmas.Iterator.{YieldsList-from_zip, YieldsList-from_slice}
+use Rattle.std.proofs.lemmas.Iterator.Search.{any_from_yields_List}
+use Rattle.columns.proofs.LastPositions.{meet-any}
 use Rattle.columns.proofs.last_positions.rows_meet.Goals as goal
-
-pub returns-then-row-i-ne0 : goal.returns-then-row-i-ne0
-returns-then-row-i-ne0 c =
-    let l = c.loop-i in
-    let a = c.args in
-    sym (sym l.invariant ∙ meet-here a.row a.other l.i (omega (arith, c.well_formed.0.1.0.1)) (omega (arith, c.well_formed.1.0.1.0.1)) c.if-row-i-ne0.true)
-
-pub loop-i-preserved : goal.loop-i-preserved
-loop-i-preserved c =
-    let l = c.loop-i in
-    let a = c.args in
-    meet-on a.row a.other l.i (omega (arith, c.well_formed.0.1.0.1)) (omega (arith, c.well_formed.1.0.1.0.1)) c.if-row-i-ne0.false ∙ l.invariant
 
 pub returns : goal.returns
 returns c =
-    let l = c.loop-i in
-    let a = c.args in
-    sym (sym l.invariant ∙ meet-none a.row a.other l.i (omega (arith, c.well_formed.0.1.0.1, c.loop-i-test.false)))
+    any_from_yields_List (λ (p : ℕ × ℕ). not (eqb (bit_and p.0 p.1) 0)) c.any.new.self _ _ c.any.ensures.ran
+    (YieldsList-from_zip {s = c.zip.result} (YieldsList-from_slice c.args.row (search rules)) (YieldsList-from_slice c.args.other (search rules)))
+    (λ x b q k. search rules)
+    ∙ meet-any c.args.row c.args.other

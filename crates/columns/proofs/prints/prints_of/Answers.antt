@@ -1,18 +1,16 @@
--- The four calls, one after the other.
-use mathlib.Core.Path.{ap, ap₂, ◌∙◌}
-use mathlib.Core.List.{List}
-use Prim.Native.Nat.{ℕ}
-use Rattle.columns.specs.Machinery.LastPositions.{last_positions}
-use Rattle.columns.specs.Machinery.Prints.{other_plan, prints_of}
+-- What the four calls work out, of the plans as they lie in the workspace.
+use Rattle.std.proofs.Common.{List, ℕ, ap, ap₂, ◌∙◌}
+use Rattle.columns.specs.Machinery.LastPositions.{last_positions, no_positions}
+use Rattle.columns.specs.Machinery.Prints.{prints_by}
 use Rattle.columns.proofs.prints.prints_of.Goals as goal
 
 pub returns : goal.returns
 returns c =
-    let a = c.args in
+    let plans = c.args.plans in
+    let own = c.own-own_plan.result.now in
+    let other = c.other-other_plan.result.now in
     ap
-    (λ (row : List ℕ). record { plans = a.plans; ends = row; own = c.text_rows-own.result; other = c.text_rows-other.result })
-    (c.last_positions-ends.ensures ∙ ap (λ (row : List ℕ). last_positions row (other_plan a.words.now a.plans)) c.last_positions-some.ensures)
-    ∙ ap₂
-    (λ (m n : ℕ). record { plans = a.plans; ends = (prints_of a.words.now a.plans).ends; own = m; other = n })
-    c.text_rows-own.ensures
-    c.text_rows-other.ensures
+    (λ (row : List ℕ). record { plans = plans; ends = row; own = c.text_rows.result; other = c.text_rows-2.result })
+    (c.last_positions-2.ensures ∙ ap (λ (row : List ℕ). last_positions row other) c.last_positions.ensures)
+    ∙ ap₂ (λ (m n : ℕ). record { plans = plans; ends = last_positions (last_positions no_positions own) other; own = m; other = n }) c.text_rows.ensures c.text_rows-2.ensures
+    ∙ ap₂ (prints_by plans) c.own-own_plan.ensures c.other-other_plan.ensures
