@@ -3,7 +3,6 @@ pub mod ColumnContents
 pub mod Widths
 pub mod StateWalk
 pub mod Edges
-pub mod Places
 pub mod LeftInColumn
 pub mod Laying
 pub mod PlanNetworks

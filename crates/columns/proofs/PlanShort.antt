@@ -13,7 +13,7 @@ use Rattle.stored.specs.Items.{column_place, column_negated, key_code, key_sort}
 use Rattle.stored.specs.Operators.{row_of}
 use Rattle.stored.specs.Entries.{Entry, item_of, bytes_of}
 use Rattle.stored.specs.Machinery.Following.{Follows, Accepted}
-use Rattle.stored.specs.Machine.{fresh_state, same_sort, column_phase, place_due, takes_kind, kind_of_item, listed_state, turn_of}
+use Rattle.stored.specs.Machine.{Turn as T, fresh_state, same_sort, column_phase, place_due, takes_kind, kind_of_item, listed_state, turn_of}
 use Rattle.stored.specs.Tables.{gather, table_of}
 use Rattle.stored.specs.declared.items.Column.{Column}
 use Rattle.stored.specs.declared.items.Column.TheVariants as C
@@ -24,7 +24,6 @@ use Rattle.stored.specs.declared.records.Kind.TheVariants as K
 use Rattle.stored.specs.declared.machine.Phase.{Phase}
 use Rattle.stored.specs.declared.machine.Phase.TheVariants as P
 use Rattle.stored.specs.declared.machine.State.{State}
-use Rattle.stored.specs.declared.machine.Turn.TheVariants as T
 use Rattle.stored.proofs.Choosing.{never}
 use Rattle.stored.proofs.Turns.{Turned, admitted, in-turn, turned}
 use Rattle.matching.specs.declared.reading.Reading.{Reading}

@@ -31,11 +31,12 @@ sum-append [] ws = omega arith
 sum-append (v ∷ vs) ws = omega (arith, sum-append vs ws)
 
 -- one code for each symbol of a value and one for its start
+pub codes-length : (reading : Reading) (value : List ℕ) → length (value_codes reading value) ≡ length value + 1
+codes-length reading value = omega (arith, length-map (symbols reading value) (symbol_code (ignores_case reading)), symbols-length reading value)
+
 pub codes-sum : (vs : List (Reading × List ℕ)) → length (codes_of vs) ≡ sum_of vs
 codes-sum [] = refl
-codes-sum (v ∷ vs) =
-    length-append (value_codes v.0 v.1) (codes_of vs)
-    ∙ omega (arith, codes-sum vs, length-map (symbols v.0 v.1) (symbol_code (ignores_case v.0)), symbols-length v.0 v.1)
+codes-sum (v ∷ vs) = length-append (value_codes v.0 v.1) (codes_of vs) ∙ omega (arith, codes-sum vs, codes-length v.0 v.1)
 
 -- the sum over a column of both tables
 pub sum_both : (column : ℕ) (first second : List Statement)

@@ -2,6 +2,7 @@
 pub mod Both
 pub mod ReadOnce
 pub mod Contents
+pub mod ContentsLeft
 pub mod Lists
 pub mod Edges
 pub mod StateWalk

@@ -1,19 +1,19 @@
 // The plan of a column, laid down in the workspace by one walk over the records of a table: what decides which rows hold, and nothing else.
-ghost use Rattle.std.specs.Prelude.{◌≡◌, not, ◌&&◌, ◌+◌, ◌-◌, ◌^◌, ◌<◌, ◌≤◌, length};
+ghost use Rattle.std.specs.Prelude.{◌≡◌, not, ◌&&◌, ◌+◌, ◌^◌, ◌<◌, ◌≤◌, Some, None, length};
 ghost use Rattle.std.proofs.lemmas.List.Edits.{sets};
 ghost use Rattle.std.proofs.Math.Seq.{slice};
 ghost use Rattle.stored.specs.Choice.{pick};
-ghost use Rattle.stored.specs.Entries.{entries_of};
+ghost use Rattle.stored.specs.Entries.{entry_of, bytes_of, entries_of};
 ghost use Rattle.states.specs.Machinery.Rows.{codes_at, prints_at};
 ghost use Rattle.columns.specs.Machinery.Plan.{list_word, value_word, network_word, item_word, word_alone, plan_of, PlansFit, LaysPlans};
 
-use crate::contents::{fresh_list, moved, positions_of};
+use crate::contents::ListAt;
 use crate::runs::{FIRST_VALUE, LIST, NEGATED_LIST, STATEMENT};
 use judging::rows::key_column;
 use states::limits::CODES;
+use stored::entries::{Entry, entries_of};
 use stored::items::{Item, column_place, is_negated_column};
 use stored::operators::operator_row;
-use stored::records::{Record, record_at};
 
 // Where the plans of two tables lie: the first's from CODES on, up to where the second's begins, and that one's end.
 #[derive(Clone, Copy, Debug, PartialEq, Eq)]
@@ -48,88 +48,56 @@ impl Plans {
     }
 }
 
-// No word.
-const NOTHING: u64 = 0;
-
-// The word of a list that opens, of the column or not.
-fn list_word(here: bool, negated: bool) -> u64
-    ensures { result ≡ pick here (list_word negated) 0 }
+// The word of a list that opens, if it is of the column.
+fn list_word(here: bool, negated: bool) -> Option<u64>
+    ensures { result ≡ pick here (Some (list_word negated)) None }
 {
-    if here {
-        if negated {
-            return NEGATED_LIST;
-        }
-        return LIST;
-    }
-    NOTHING
+    here.then_some(if negated { NEGATED_LIST } else { LIST })
 }
 
 // The word of a value, in a column of strings, by its last position.
-fn value_word(strings: bool, here: bool, p: usize) -> u64
+fn value_word(strings: bool, here: bool, p: usize) -> Option<u64>
     requires { 4 + p < 2 ^ 64 }
-    ensures { result ≡ pick (strings && here) (value_word p) 0 }
+    ensures { result ≡ pick (strings && here) (Some (value_word p)) None }
 {
-    if strings {
-        if here {
-            return FIRST_VALUE + (p as u64);
-        }
-        return NOTHING;
-    }
-    NOTHING
+    (strings && here).then_some(FIRST_VALUE + p as u64)
 }
 
-// The number of bits behind a prefix.
-fn bits_behind(prefix: u8) -> u64
-    ensures { result ≡ 32 - prefix }
+// The word of a network, in column 7, by its address and the number of bits behind its prefix.
+fn network_word(strings: bool, here: bool, network: u32, prefix: u8) -> Option<u64>
+    ensures { result ≡ pick (not strings && here) (Some (network_word network prefix)) None }
 {
-    if 32 <= prefix {
-        return 0;
-    }
-    32 - (prefix as u64)
-}
-
-// The word of a network, in column 7.
-fn network_word(strings: bool, here: bool, network: u32, prefix: u8) -> u64
-    ensures { result ≡ pick (not strings && here) (network_word network prefix) 0 }
-{
-    if strings {
-        return NOTHING;
-    }
-    if here {
-        let bits = bits_behind(prefix);
-        return FIRST_VALUE + ((network as u64) * 64 + bits);
-    }
-    NOTHING
+    let bits = 32u64.saturating_sub(u64::from(prefix));
+    (!strings && here).then_some(FIRST_VALUE + (u64::from(network) * 64 + bits))
 }
 
 // The word that a record adds to the plan, if any, p being the position in front of it.
-fn item_word(column: usize, strings: bool, here: bool, p: usize, item: Item, size: usize) -> u64
-    requires { 4 + (p + size) < 2 ^ 64 }
-    ensures { result ≡ item_word column strings here p item size }
+fn item_word(column: usize, strings: bool, here: bool, p: usize, entry: Entry) -> Option<u64>
+    requires { 4 + (p + length (bytes_of (entry_of entry.item entry.bytes.now))) < 2 ^ 64 }
+    ensures { result ≡ item_word column strings here p entry.entry.item (length entry.entry.bytes.now) }
 {
-    match item {
-        Item::Start(_) => NOTHING,
-        Item::Statement(_) => STATEMENT,
+    match entry.item {
+        Item::Statement(_) => Some(STATEMENT),
         Item::Column(name) => list_word(column_place(name) == column, is_negated_column(name)),
-        Item::Condition(operator, key) => {
-            let row = operator_row(operator);
-            list_word(key_column(key) == column, row.negated)
-        }
+        Item::Condition(operator, key) => list_word(
+            key_column(key) == column,
+            operator_row(operator).negated,
+        ),
         Item::Network(network, prefix) => network_word(strings, here, network, prefix),
-        Item::Value => value_word(strings, here, p + size),
-        Item::End => NOTHING,
+        Item::Value => value_word(strings, here, p + entry.bytes.len()),
+        Item::Start(_) | Item::End => None,
     }
 }
 
-// Lays a word down, if it is one, and answers where the next one goes.
-fn lay_word(words: &mut [u64], to: usize, word: u64) -> usize
+// Lays a word down, if there is one, and answers where the next one goes.
+fn lay_word(words: &mut [u64], to: usize, word: Option<u64>) -> usize
     requires { to + length (word_alone word) ≤ length words.old }
     ensures next { result ≡ to + length (word_alone word) }
     ensures laid { words.new ≡ sets words.old to (word_alone word) }
 {
-    if word == NOTHING {
+    let Some(word) = word else {
         return to;
-    }
+    };
     words[to] = word;
     to + 1
 }
@@ -147,29 +115,13 @@ fn lay_plan(
     ensures next { result ≡ start + length (plan_of column strings from (entries_of table.now)) }
     ensures laid { words.new ≡ sets words.old start (plan_of column strings from (entries_of table.now)) }
 {
-    let mut list = fresh_list();
-    let mut p: usize = from;
-    let mut to: usize = start;
-    let mut at: usize = 0;
-    while at < table.len() {
-        match record_at(table, at) {
-            Record::Is(item, begin, size) => {
-                let word = item_word(column, strings, list.here, p, item, size);
-                let behind = lay_word(words, to, word);
-                let more = positions_of(list, item, size);
-                let next = moved(list, item, column);
-                to = behind;
-                p += more;
-                list = next;
-                at = begin + size;
-            }
-            Record::Cut => {
-                return to;
-            }
-            Record::Strange => {
-                return to;
-            }
-        }
+    let mut list = ListAt::fresh();
+    let mut p = from;
+    let mut to = start;
+    for entry in entries_of(table) {
+        to = lay_word(words, to, item_word(column, strings, list.here, p, entry));
+        p += list.positions(entry);
+        list = list.moved(entry.item, column);
     }
     to
 }
@@ -189,8 +141,5 @@ pub fn lay_plans(
 {
     let middle = lay_plan(words, CODES, first, column, strings, 0);
     let end = lay_plan(words, middle, second, column, strings, from);
-    Plans {
-        middle: middle,
-        end: end,
-    }
+    Plans { middle, end }
 }

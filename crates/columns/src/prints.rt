@@ -17,6 +17,7 @@ use crate::last_positions::{last_positions, rows_meet};
 use crate::plan::Plans;
 use crate::runs::{address_rows, text_rows};
 use crate::tables::Tables;
+use judging::request::Value;
 use judging::rows::rows_in;
 
 // What is worked out once for all states of a column of strings: where the plans lie, the last positions of their values, and the rows of
@@ -43,8 +44,8 @@ pub fn absent_print(first: &[u8], second: &[u8], column: usize, size: u64) -> u6
     requires { (length (rows_of first.now) ≤ 32) × (length (rows_of second.now) ≤ 32) × (size ≡ length (rows_of first.now)) }
     ensures { result ≡ rows_word (holds column absent) (rows_of first.now ++ rows_of second.now) }
 {
-    let own = rows_in(first, false, column, false, first, 0);
-    let other = rows_in(second, false, column, false, second, 0);
+    let own = rows_in(first, false, column, Value::Absent);
+    let other = rows_in(second, false, column, Value::Absent);
     joined(own, other, size)
 }
 

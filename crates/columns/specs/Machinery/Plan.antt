@@ -1,6 +1,6 @@
 -- The plan of a column: the few records of a table that decide which of its rows hold, as words in their order; and the run over a plan with
 -- a state, or with an address, which gathers these rows.
-use Rattle.std.specs.Prelude.{ℕ, ◌+◌, ◌-◌, ◌*◌, ◌/◌, ◌%◌, ◌^◌, ◌≤◌, min, ◌≡◌, Bool, true, false, not, ◌&&◌, List, [], ◌∷◌, eqb, ltb, length, take, drop}
+use Rattle.std.specs.Prelude.{ℕ, ◌+◌, ◌-◌, ◌*◌, ◌/◌, ◌%◌, ◌^◌, ◌≤◌, min, ◌≡◌, Bool, true, false, not, ◌&&◌, List, [], ◌∷◌, Option, Some, None, eqb, ltb, length, take, drop}
 use Rattle.std.specs.Int.Bits.{bit_or}
 use Rattle.std.proofs.lemmas.List.Edits.{sets}
 use Rattle.std.proofs.Math.Seq.{slice}
@@ -56,19 +56,20 @@ plan_from column strings here p (Entry.end ∷ es) = plan_from column strings he
 abbrev pub plan_of : ℕ → Bool → ℕ → List Entry → List ℕ
 plan_of column strings from es = plan_from column strings false from es
 
--- the word that an item with so many bytes beside it adds to the plan, or 0
-abbrev pub item_word : ℕ → Bool → Bool → ℕ → Item → ℕ → ℕ
-item_word column strings here p (I.Start n) size = 0
-item_word column strings here p (I.Statement e) size = statement_word
-item_word column strings here p (I.Column c) size = pick (eqb (column_place c) column) (list_word (column_negated c)) 0
-item_word column strings here p (I.Condition o k) size = pick (eqb (3 + key_code k) column) (list_word (row_of o).negated) 0
-item_word column strings here p (I.Network a n) size = pick (not strings && here) (network_word a n) 0
-item_word column strings here p I.Value size = pick (strings && here) (value_word (p + size)) 0
-item_word column strings here p I.End size = 0
+-- the word that an item with so many bytes beside it adds to the plan, if any
+abbrev pub item_word : ℕ → Bool → Bool → ℕ → Item → ℕ → Option ℕ
+item_word column strings here p (I.Start n) size = None
+item_word column strings here p (I.Statement e) size = Some statement_word
+item_word column strings here p (I.Column c) size = pick (eqb (column_place c) column) (Some (list_word (column_negated c))) None
+item_word column strings here p (I.Condition o k) size = pick (eqb (3 + key_code k) column) (Some (list_word (row_of o).negated)) None
+item_word column strings here p (I.Network a n) size = pick (not strings && here) (Some (network_word a n)) None
+item_word column strings here p I.Value size = pick (strings && here) (Some (value_word (p + size))) None
+item_word column strings here p I.End size = None
 
 -- such a word as a plan
-abbrev pub word_alone : ℕ → List ℕ
-word_alone word = pick (eqb word 0) [] (word ∷ [])
+abbrev pub word_alone : Option ℕ → List ℕ
+word_alone None = []
+word_alone (Some word) = word ∷ []
 
 -- before the first word
 abbrev pub fresh_run : Run

@@ -3,14 +3,12 @@ use mathlib.Core.HLevel.{is_prop→PathP}
 use Rattle.std.specs.Prelude.{◌≡◌, ℕ, Bool, true, false, List, [], ◌∷◌, ◌⊎◌, length, refl}
 use Rattle.std.specs.Coded.{Coded, Coded-set, coded_ℕ, coded_bool, coded×, coded⊎, code_by, le_prop}
 use Rattle.std.proofs.Common.{inl, inr, sym, ap, ◌∙◌}
-use Rattle.stored.specs.Machine.{is_ended}
+use Rattle.stored.specs.Machine.{Turn as T, Turn, is_ended}
 use Rattle.stored.specs.declared.items.Sort.{Sort}
 use Rattle.stored.specs.declared.items.Sort.TheVariants as S
 use Rattle.stored.specs.declared.machine.Phase.{Phase}
 use Rattle.stored.specs.declared.machine.Phase.TheVariants as P
 use Rattle.stored.specs.declared.machine.State.{State}
-use Rattle.stored.specs.declared.machine.Turn.{Turn}
-use Rattle.stored.specs.declared.machine.Turn.TheVariants as T
 use Rattle.stored.specs.Entries.{Entry, entries_of}
 use Rattle.stored.specs.Machinery.Following.{admit, Follows}
 use Rattle.judging.specs.Judging.{rows_of}
