@@ -1,14 +1,17 @@
 // A request as its line gives it: `p=`, `a=`, `r=`, `k0=` to `k3=` and `ip=`, each with the column's text up to the next blank. A
-// key that is not named is absent. With `-` in front a key is absent too, but its text is handed to the judge.
-ghost use Rattle.std.specs.Prelude.{◌≤◌, length};
-
+// key that is not named is absent. With `-` in front a key is absent too, whatever its text.
 use cases::laying::{digit_of, is_digit, lay_text};
-use cases::text::{begins_with, behind_next, part_of};
-use judging::judge::{Judgement, judge};
-use judging::request::Present;
-use stored::records::byte_at;
+use cases::text::{begins_with, part_of};
+use judging::request::Request;
 
-// A column of strings: whether it is there, and where its bytes stand in the room.
+// What a line says of a column: whether it is there, and its text.
+#[derive(Clone, Copy)]
+struct Word<'a> {
+    present: bool,
+    text: &'a [u8],
+}
+
+// A column whose bytes were laid into the room: whether it is there, and where they stand.
 #[derive(Clone, Copy)]
 struct Column {
     present: bool,
@@ -16,165 +19,91 @@ struct Column {
     to: usize,
 }
 
-#[derive(Clone, Copy)]
-struct Elements {
-    principal: Column,
-    action: Column,
-    resource: Column,
-}
-
-#[derive(Clone, Copy)]
-struct Keys {
-    vpc: Column,
-    prefix: Column,
-    vpce: Column,
-    referer: Column,
-}
-
-#[derive(Clone, Copy)]
-pub struct Request {
-    elements: Elements,
-    keys: Keys,
-    has_address: bool,
-    address: u32,
-}
-
-// The word gives this column, perhaps as absent.
-fn is_for(word: &[u8], name: &[u8]) -> bool {
-    if byte_at(word, 0) == b'-' {
-        return begins_with(part_of(word, 1, word.len()), name);
+impl Column {
+    fn bytes(self, room: &[u8]) -> &[u8] {
+        part_of(room, self.from, self.to)
     }
-    begins_with(word, name)
+
+    fn key(self, room: &[u8]) -> Option<&[u8]> {
+        self.present.then_some(self.bytes(room))
+    }
 }
 
-// The place of the word that gives a column, or the end.
-fn place_of_column(line: &[u8], name: &[u8]) -> usize
-    ensures { result ≤ length line.now }
-{
-    let mut at: usize = 0;
-    while at < line.len() {
-        let end = behind_next(line, at, b' ');
-        if is_for(&line[at..end], name) {
-            return at;
+// What stands behind a name, where a word begins with it.
+fn behind_name<'a>(word: &'a [u8], name: &[u8]) -> Option<&'a [u8]> {
+    begins_with(word, name).then_some(part_of(word, name.len(), word.len()))
+}
+
+// The first word that gives a column, perhaps as absent.
+fn word_of<'a>(line: &'a [u8], name: &[u8]) -> Word<'a> {
+    for word in line.split(|b| *b == b' ') {
+        if let Some(text) = behind_name(word, name) {
+            return Word {
+                present: true,
+                text,
+            };
         }
-        at = end;
+        if let Some(absent) = behind_name(word, b"-") {
+            if let Some(text) = behind_name(absent, name) {
+                return Word {
+                    present: false,
+                    text,
+                };
+            }
+        }
     }
-    at
-}
-
-// The word at a place is there and has no `-` in front.
-fn is_present(line: &[u8], at: usize) -> bool {
-    if at < line.len() {
-        return line[at] != b'-';
+    Word {
+        present: false,
+        text: &[],
     }
-    false
-}
-
-// What stands behind the `=` of the word at a place, or nothing.
-fn text_of(line: &[u8], at: usize) -> &[u8] {
-    if at < line.len() {
-        let from = behind_next(line, at, b'=');
-        return part_of(line, from, behind_next(line, at, b' '));
-    }
-    part_of(line, 0, 0)
 }
 
 // Lays the bytes of a column into the room from a place on.
 fn lay_column(line: &[u8], name: &[u8], room: &mut [u8], from: usize) -> Column {
-    let at = place_of_column(line, name);
-    let to = lay_text(text_of(line, at), room, from);
+    let word = word_of(line, name);
     Column {
-        present: is_present(line, at),
-        from: from,
-        to: to,
+        present: word.present,
+        from,
+        to: lay_text(word.text, room, from),
     }
 }
 
 // An address with one more sign of its dotted decimal.
 fn address_with(address: u32, sign: u8) -> u32 {
     if sign == b'.' {
-        return address % 0x1000000 * 256;
+        address % 0x1000000 * 256
+    } else if is_digit(sign) {
+        let last = (address % 256 * 10 + u32::from(digit_of(sign))) % 256;
+        address / 256 % 0x1000000 * 256 + last
+    } else {
+        address
     }
-    if is_digit(sign) {
-        let last = (address % 256 * 10 + digit_of(sign) as u32) % 256;
-        return address / 256 % 0x1000000 * 256 + last;
-    }
-    address
 }
 
 // The address that a text in dotted decimal stands for.
 fn address_of(text: &[u8]) -> u32 {
-    let mut address: u32 = 0;
-    let mut at: usize = 0;
-    while at < text.len() {
-        address = address_with(address, text[at]);
-        at += 1;
-    }
-    address
-}
-
-fn lay_elements(line: &[u8], room: &mut [u8]) -> Elements {
-    let principal = lay_column(line, b"p=", room, 0);
-    let action = lay_column(line, b"a=", room, principal.to);
-    let resource = lay_column(line, b"r=", room, action.to);
-    Elements {
-        principal: principal,
-        action: action,
-        resource: resource,
-    }
-}
-
-fn lay_keys(line: &[u8], room: &mut [u8], from: usize) -> Keys {
-    let vpc = lay_column(line, b"k0=", room, from);
-    let prefix = lay_column(line, b"k1=", room, vpc.to);
-    let vpce = lay_column(line, b"k2=", room, prefix.to);
-    let referer = lay_column(line, b"k3=", room, vpce.to);
-    Keys {
-        vpc: vpc,
-        prefix: prefix,
-        vpce: vpce,
-        referer: referer,
-    }
+    text.iter()
+        .fold(0, |address, sign| address_with(address, *sign))
 }
 
 // Lays the columns of a line's request into the room, one behind the other.
-pub(crate) fn lay_request(line: &[u8], room: &mut [u8]) -> Request {
-    let elements = lay_elements(line, room);
-    let keys = lay_keys(line, room, elements.resource.to);
-    let at = place_of_column(line, b"ip=");
+pub(crate) fn lay_request<'a>(line: &[u8], room: &'a mut [u8]) -> Request<'a> {
+    let principal = lay_column(line, b"p=", room, 0);
+    let action = lay_column(line, b"a=", room, principal.to);
+    let resource = lay_column(line, b"r=", room, action.to);
+    let vpc = lay_column(line, b"k0=", room, resource.to);
+    let prefix = lay_column(line, b"k1=", room, vpc.to);
+    let vpce = lay_column(line, b"k2=", room, prefix.to);
+    let referer = lay_column(line, b"k3=", room, vpce.to);
+    let address = word_of(line, b"ip=");
     Request {
-        elements: elements,
-        keys: keys,
-        has_address: is_present(line, at),
-        address: address_of(text_of(line, at)),
+        principal: principal.bytes(room),
+        action: action.bytes(room),
+        resource: resource.bytes(room),
+        vpc: vpc.key(room),
+        prefix: prefix.key(room),
+        vpce: vpce.key(room),
+        referer: referer.key(room),
+        address: address.present.then_some(address_of(address.text)),
     }
-}
-
-fn bytes_of(room: &[u8], column: Column) -> &[u8] {
-    part_of(room, column.from, column.to)
-}
-
-// Judges a request whose columns were laid into the room.
-pub(crate) fn judge_laid(table: &[u8], room: &[u8], request: Request) -> Judgement {
-    let elements = request.elements;
-    let keys = request.keys;
-    let present = Present {
-        vpc: keys.vpc.present,
-        prefix: keys.prefix.present,
-        vpce: keys.vpce.present,
-        referer: keys.referer.present,
-        address: request.has_address,
-    };
-    judge(
-        table,
-        bytes_of(room, elements.principal),
-        bytes_of(room, elements.action),
-        bytes_of(room, elements.resource),
-        present,
-        bytes_of(room, keys.vpc),
-        bytes_of(room, keys.prefix),
-        bytes_of(room, keys.vpce),
-        bytes_of(room, keys.referer),
-        request.address,
-    )
 }
