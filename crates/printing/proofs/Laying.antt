@@ -2,10 +2,11 @@
 use Prim.Native.Nat.{ℕ, suc, ◌+◌, ◌≤◌}
 use mathlib.Core.Path.{◌≡◌, refl, sym, ◌∙◌, ap}
 use mathlib.Core.List.{List, [], ◌∷◌, ◌++◌}
-use native.Mathlib.Nat.{le_antisymm}
+use borrow.Rule.Slice.PartMut.{put_mid}
+use Rattle.std.proofs.lemmas.Slice.{put_mid-paste}
 use native.Mathlib.Omega.{arith}
 use lib.ListN.{length, length-append, set}
-use lib.Seq.{sets, sets-eq, paste, take-length}
+use lib.Seq.{sets, sets-eq, take-length}
 use Rattle.printing.specs.Laying.{Laid}
 
 sets_behind : (l : List ℕ) (at : ℕ) (xs ys : List ℕ) (p : ℕ) → p ≡ at + length xs → sets (sets l at xs) p ys ≡ sets l at (xs ++ ys)
@@ -30,11 +31,9 @@ widened h x = record { lies = x.lies; ends = x.ends; within = omega (arith, x.wi
 pub nothing : (l : List ℕ) (at m : ℕ) → Laid l at [] m l at
 nothing l at m = record { lies = refl; ends = omega arith; within = omega arith }
 
--- a copy that is complete is a run
-pub copied : (before : List ℕ) (at : ℕ) (bytes : List ℕ) (i : ℕ)
-    → at + length bytes ≤ length before → i ≤ length bytes → length bytes ≤ i → paste before at bytes i ≡ sets before at bytes
-copied before at bytes i room below above =
-    rw (le_antisymm below above, take-length bytes) (sym (sets-eq bytes before at room))
+-- a part laid over others is a run
+pub copied : (before : List ℕ) (at k : ℕ) (bytes : List ℕ) → k ≡ length bytes → at + length bytes ≤ length before → put_mid at k before bytes ≡ sets before at bytes
+copied before at k bytes long room = rw (put_mid-paste at k before bytes bytes k refl refl long, long, take-length bytes) (sym (sets-eq bytes before at room))
 
 -- the same bytes
 pub relaid : {before after xs ys : List ℕ} {at q m : ℕ} → xs ≡ ys → Laid before at xs m after q → Laid before at ys m after q

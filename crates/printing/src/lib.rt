@@ -6,20 +6,17 @@ ghost use Rattle.std.specs.Prelude.{◌≡◌, ◌++◌, ◌+◌, ◌≤◌, len
 ghost use Rattle.printing.specs.Decimals.{decimal_of};
 ghost use Rattle.printing.specs.Laying.{Laid};
 
-// Lays bytes down at a place.
+/// Lays bytes down at a place.
 pub fn put(out: &mut [u8], at: usize, bytes: &[u8]) -> usize
     requires { at + length bytes.now ≤ length out.old }
     ensures { Laid out.old at bytes.now (length bytes.now) out.new result }
 {
-    let mut i: usize = 0;
-    while i < bytes.len() {
-        out[at + i] = bytes[i];
-        i += 1;
-    }
-    at + bytes.len()
+    let next = at + bytes.len();
+    out[at..next].copy_from_slice(bytes);
+    next
 }
 
-// Lays bytes down behind their name.
+/// Lays bytes down behind their name.
 pub fn put_named(out: &mut [u8], at: usize, name: &[u8], bytes: &[u8]) -> usize
     requires { at + (length name.now + length bytes.now) ≤ length out.old }
     ensures { Laid out.old at (name.now ++ bytes.now) (length name.now + length bytes.now) out.new result }
@@ -28,7 +25,7 @@ pub fn put_named(out: &mut [u8], at: usize, name: &[u8], bytes: &[u8]) -> usize
     put(out, next, bytes)
 }
 
-// Lays a number down in decimal.
+/// Lays a number down in decimal.
 pub fn put_decimal(out: &mut [u8], at: usize, n: u64) -> usize
     requires { at + 20 ≤ length out.old }
     ensures { Laid out.old at (decimal_of n) 20 out.new result }
@@ -38,7 +35,7 @@ pub fn put_decimal(out: &mut [u8], at: usize, n: u64) -> usize
     put(out, at, &digits[..size])
 }
 
-// Lays a number down in decimal, behind its name.
+/// Lays a number down in decimal, behind its name.
 pub fn put_number(out: &mut [u8], at: usize, name: &[u8], n: u64) -> usize
     requires { at + (length name.now + 20) ≤ length out.old }
     ensures { Laid out.old at (name.now ++ decimal_of n) (length name.now + 20) out.new result }
