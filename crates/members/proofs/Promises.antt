@@ -8,8 +8,8 @@ use Rattle.members.specs.Answers.{Checked as C}
 -- The faults decide one answer.
 pub one-decision : (size : ℕ) (fs : List MemberFault) (a b : Checked) → Decides size fs a → Decides size fs b → a ≡ b
 one-decision size fs C.Sound C.Sound p q = refl
-one-decision size fs C.Sound (C.Refused k n) p q = absurd (let z : ◌≡◌ {A = ℕ} 0 1 = cc (p, q.both) in omega arith)
-one-decision size fs (C.Refused k n) C.Sound p q = absurd (let z : ◌≡◌ {A = ℕ} 0 1 = cc (p.both, q) in omega arith)
+one-decision size fs C.Sound (C.Refused k n) p q = absurd (cc (p, q.both))
+one-decision size fs (C.Refused k n) C.Sound p q = absurd (cc (p.both, q))
 one-decision size fs (C.Refused k n) (C.Refused l m) p q =
     let same : p.fault ≡ q.fault = cc in
     let numbers : k ≡ l = sym p.its_number ∙ ap (λ (f : MemberFault). f.number) same ∙ q.its_number in

@@ -182,6 +182,7 @@ impl Name for KeyName {
     }
 }
 
+/// The member of the document that the string at a place names.
 #[tactic(auto, unfolding(crate::specs::Members::top_kind, crate::specs::Members::top_names))]
 pub fn top_name(text: &[u8], from: usize) -> Option<TopName>
     ensures { kind_in index_of_top result ≡ top_kind (content_of (drop from text.now)) }
@@ -195,6 +196,7 @@ pub fn top_name(text: &[u8], from: usize) -> Option<TopName>
     }
 }
 
+/// The member of a statement that the string at a place names.
 #[tactic(auto, unfolding(crate::specs::Members::row_kind, crate::specs::Members::row_names))]
 pub fn row_name(text: &[u8], from: usize) -> Option<RowName>
     ensures { kind_in index_of_row result ≡ row_kind (content_of (drop from text.now)) }
@@ -222,6 +224,7 @@ pub fn row_name(text: &[u8], from: usize) -> Option<RowName>
     }
 }
 
+/// The member of a principal that the string at a place names.
 #[tactic(auto, unfolding(crate::specs::Members::aws_kind))]
 pub fn aws_name(text: &[u8], from: usize) -> Option<AwsName>
     ensures { kind_in index_of_aws result ≡ aws_kind (content_of (drop from text.now)) }
@@ -233,6 +236,7 @@ pub fn aws_name(text: &[u8], from: usize) -> Option<AwsName>
     }
 }
 
+/// The operator that the string at a place names.
 #[tactic(auto, unfolding(crate::specs::Members::operator_kind, crate::specs::Members::operator_names))]
 pub fn operator_name(text: &[u8], from: usize) -> Option<OperatorName>
     ensures { kind_in index_of_operator result ≡ operator_kind (content_of (drop from text.now)) }
@@ -266,6 +270,7 @@ pub fn operator_name(text: &[u8], from: usize) -> Option<OperatorName>
     }
 }
 
+/// The key that the string at a place names, in whatever case.
 #[tactic(auto, unfolding(crate::specs::Members::key_kind, crate::specs::Members::key_names))]
 pub fn key_name(text: &[u8], from: usize) -> Option<KeyName>
     ensures { kind_in index_of_key result ≡ key_kind (content_of (drop from text.now)) }

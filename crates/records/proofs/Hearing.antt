@@ -1,5 +1,5 @@
 -- The strings of an element and the wishes of conditions: one token of the walk.
-use Rattle.std.proofs.Common.{ℕ, ◌+◌, ◌-◌, ◌≡◌, refl, sym, ◌∙◌, ap, List, ◌∷◌, length, drop}
+use Rattle.std.proofs.Common.{Option, Some, None, ℕ, ◌+◌, ◌-◌, ◌≡◌, refl, sym, ◌∙◌, ap, List, ◌∷◌, length, drop}
 use Rattle.json_text.specs.Machinery.Pieces.{content_of}
 use Rattle.json_text.specs.Machinery.Tokens.{Token, mark}
 use Rattle.json_text.specs.declared.events.Event.{Event}
@@ -29,12 +29,12 @@ module _ (t : List ℕ) (r : List Wish) (ts : List Token) (at : ℕ) where
   abbrev pub tokens : Event → List Token
   tokens e = mark e (length t - at) (drop (at + 1) t) ts
 
-  abbrev pub after_heard : Heard → List Wish
-  after_heard (Hd.On h) = values_from So.Text r ts (hold_of t h)
-  after_heard Hd.Alone = wish_of t W.Value at ∷ r
-  after_heard Hd.Listed = wish_of t W.Value at ∷ values_from So.Text r ts Streams.Hold.filled
-  after_heard (Hd.Empty p) = wish_of t W.Empty p ∷ r
-  after_heard Hd.Gone = r
+  abbrev pub after_heard : Option Heard → List Wish
+  after_heard (Some (Hd.On h)) = values_from So.Text r ts (hold_of t h)
+  after_heard (Some Hd.Alone) = wish_of t W.Value at ∷ r
+  after_heard (Some Hd.Listed) = wish_of t W.Value at ∷ values_from So.Text r ts Streams.Hold.filled
+  after_heard (Some (Hd.Empty p)) = wish_of t W.Empty p ∷ r
+  after_heard None = r
 
   hears-one : (e : Event) (h : Hold) → values_from So.Text r (tokens e) (hold_of t h) ≡ after_heard (hold_turn h e at)
   hears-one E.Name h = refl
@@ -49,17 +49,17 @@ module _ (t : List ℕ) (r : List Wish) (ts : List Token) (at : ℕ) where
   hears-one E.OpenObject h = refl
   hears-one E.CloseObject h = refl
 
-  pub hears : (us : List Token) (e : Event) (h : Hold) {x : Heard} → us ≡ tokens e → hold_turn h e at ≡ x
+  pub hears : (us : List Token) (e : Event) (h : Hold) {x : Option Heard} → us ≡ tokens e → hold_turn h e at ≡ x
       → values_from So.Text r us (hold_of t h) ≡ after_heard x
   hears us e h met turn = ap (λ (vs : List Token). values_from So.Text r vs (hold_of t h)) met ∙ hears-one e h ∙ ap after_heard turn
 
   -- the tokens, from this one on, are wanted where the walk stays
-  abbrev pub after_turned : List Token → Turned → List Wish
-  after_turned us (Tu.On p) = conditions_from r ts (spot_of t p)
-  after_turned us (Tu.Waits o k) = made (length t - at) (condition o k) ∷ conditions_from r us (Streams.Spot.value o)
-  after_turned us (Tu.Text o s) = wish_of t (string_kind (row_of o).sort) at ∷ conditions_from r ts (spot_of t s)
-  after_turned us (Tu.Empty p s) = wish_of t W.Empty p ∷ conditions_from r ts (spot_of t s)
-  after_turned us Tu.Gone = r
+  abbrev pub after_turned : List Token → Option Turned → List Wish
+  after_turned us (Some (Tu.On p)) = conditions_from r ts (spot_of t p)
+  after_turned us (Some (Tu.Waits o k)) = made (length t - at) (condition o k) ∷ conditions_from r us (Streams.Spot.value o)
+  after_turned us (Some (Tu.Text o s)) = wish_of t (string_kind (row_of o).sort) at ∷ conditions_from r ts (spot_of t s)
+  after_turned us (Some (Tu.Empty p s)) = wish_of t W.Empty p ∷ conditions_from r ts (spot_of t s)
+  after_turned us None = r
 
   string-said : (s : Sort) → string_wish s (length t - at) (content_of (drop (at + 1) t)) ≡ wish_of t (string_kind s) at
   string-said So.Text = refl
@@ -122,7 +122,7 @@ module _ (t : List ℕ) (r : List Wish) (ts : List Token) (at : ℕ) where
   turns-one E.CloseObject (Sp.EmptyList o q) = refl
   turns-one E.CloseObject (Sp.FilledList o) = refl
 
-  pub turns : (us : List Token) (e : Event) (p : Spot) {x : Turned} → us ≡ tokens e → spot_turn p e at (content_of (drop (at + 1) t)) ≡ x
+  pub turns : (us : List Token) (e : Event) (p : Spot) {x : Option Turned} → us ≡ tokens e → spot_turn p e at (content_of (drop (at + 1) t)) ≡ x
       → conditions_from r us (spot_of t p) ≡ after_turned us x
   turns us e p {x} met turn =
       ap (λ (vs : List Token). conditions_from r vs (spot_of t p)) met

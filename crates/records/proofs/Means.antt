@@ -18,21 +18,13 @@ use Rattle.stored.specs.Writing.{WriteAnswer as W}
 use Rattle.stored.specs.Form.{listed_for, elements_for, conditions_for, statements_for}
 use Rattle.stored.proofs.Promises.{read-write, end-ends}
 use Rattle.stored.proofs.FormReads.{table-of-entries}
-use Rattle.members.specs.Members.{Verdict}
-use Rattle.members.specs.Members.Verdict.{fine, refused}
+use Rattle.members.specs.Members.Verdict.{fine}
 use Rattle.records.specs.Documents.{statements_of}
 use Rattle.records.specs.Wishes.{Wish, wishes, entries}
 use Rattle.records.specs.Wishes.Wish.{made, strange, empty, unread}
 use Rattle.records.specs.Records.{after_wish, running, size_of, records_of}
 use Rattle.records.proofs.Wished.{wished}
 use Rattle.records.proofs.Addresses.{all_fit}
-
-abbrev number : Verdict → ℕ
-number fine = 0
-number (refused k n) = 1
-
-never {ℓ} : {X : Type ℓ} (k n : ℕ) → refused k n ≡ fine → X
-never k n e = absurd (let z : ◌≡◌ {A = ℕ} 1 0 = ap number e in omega arith)
 
 -- what is written of wishes that are all taken
 pub record Written (ws : List Wish) (s : State) (at : ℕ) (buffer : List ℕ) : Type 0 where
@@ -52,9 +44,9 @@ one_more e s next at buffer h a b = rw (h, le-ltb 16384 (at + length (record_of 
 pub write-all : (ws : List Wish) (s : State) (at : ℕ) (buffer : List ℕ) → running ws s ≡ fine
     → at + size_of ws ≤ 16384 → at + size_of ws ≤ length buffer → Written ws s at buffer
 write-all [] s at buffer h a b = record { last = record { state = s; at = at }; left = buffer; writes = (refl, refl); size = omega arith }
-write-all (strange n ∷ ws) s at buffer h a b = never 3 n h
-write-all (empty n ∷ ws) s at buffer h a b = never 5 n h
-write-all (unread n bs ∷ ws) s at buffer h a b = never _ n h
+write-all (strange n ∷ ws) s at buffer h a b = absurd (cc)
+write-all (empty n ∷ ws) s at buffer h a b = absurd (cc)
+write-all (unread n bs ∷ ws) s at buffer h a b = absurd (cc)
 write-all (made n e ∷ ws) s at buffer h a b =
     by (admit s e) refl h
     (λ next e1 e2.
@@ -65,7 +57,7 @@ write-all (made n e ∷ ws) s at buffer h a b =
         → ((next : State) → admit s e ≡ T.Next next → running ws next ≡ fine
         → Written ws next (at + length (record_of (item_of e) (bytes_of e))) (sets buffer at (record_of (item_of e) (bytes_of e))))
         → Written (made n e ∷ ws) s at buffer
-    by (T.Refused k) f g go = never k n g
+    by (T.Refused k) f g go = absurd (cc)
     by (T.Next next) f g go =
         let r = go next f g in
         record {

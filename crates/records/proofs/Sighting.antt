@@ -1,6 +1,6 @@
 -- The next statement: token by token, and what follows of the wishes of statements and of their number.
 use Prim.{tt}
-use Rattle.std.proofs.Common.{ℕ, zero, suc, ◌+◌, ◌-◌, ◌≤◌, ◌<◌, Bool, true, false, ◌≡◌, refl, sym, ◌∙◌, ap, List, [], ◌∷◌, add-one, arith, eqb, ne_eqb}
+use Rattle.std.proofs.Common.{Option, Some, None, ℕ, zero, suc, ◌+◌, ◌-◌, ◌≤◌, ◌<◌, Bool, true, false, ◌≡◌, refl, sym, ◌∙◌, ap, List, [], ◌∷◌, add-one, arith, eqb, ne_eqb}
 use Rattle.json_text.specs.Choice.{pick}
 use Rattle.json_text.specs.Machinery.Tokens.{Token, mark}
 use Rattle.json_text.specs.Machinery.Tokens.Token.{name, text, other, open-list, close-list, open-object, close-object}
@@ -17,15 +17,15 @@ use Rattle.records.specs.declared.rows.Sight.{Sight}
 use Rattle.records.specs.declared.rows.Sight.TheVariants as S
 
 -- no deeper than a place
-abbrev pub Shallow : ℕ → Sight → Type 0
-Shallow m (S.On a) = AtMost m a
-Shallow m (S.Statement listed) = Unit {0}
-Shallow m S.Gone = Unit {0}
+abbrev pub Shallow : ℕ → Option Sight → Type 0
+Shallow m (Some (S.On a)) = AtMost m a
+Shallow m (Some (S.Statement listed)) = Unit {0}
+Shallow m None = Unit {0}
 
 lower : (m n d : ℕ) → n < m → d ≤ n → Shallow m (higher (A.Within d))
 lower m n d h k = by (eqb d 0)
   where
-    by : (b : Bool) → Shallow m (pick b (S.On A.Between) (S.On (A.Within (d - 1))))
+    by : (b : Bool) → Shallow m (Some (pick b (S.On A.Between) (S.On (A.Within (d - 1)))))
     by true = tt
     by false = omega arith
 
@@ -68,7 +68,7 @@ meets E.OpenObject n s ts a = refl
 meets E.CloseObject n s ts a = refl
 
 -- one token of the walk
-pub sights : (us : List Token) (e : Event) (n : ℕ) (s : List ℕ) (ts : List Token) (a : Among) {x : Sight}
+pub sights : (us : List Token) (e : Event) (n : ℕ) (s : List ℕ) (ts : List Token) (a : Among) {x : Option Sight}
     → us ≡ mark e n s ts → among_turn a e ≡ x → row_in us a ≡ after_sight (row_in ts) ts x
 sights us e n s ts a met turn =
     ap (λ (vs : List Token). row_in vs a) met ∙ meets e n s ts a ∙ ap (after_sight (row_in ts) ts) turn
@@ -78,7 +78,7 @@ closes : (ts : List Token) (d : ℕ) → after_sight (row_in ts) ts (higher (A.W
 closes ts d =
     let e : eqb (suc d) 0 ≡ false = ne_eqb (suc d) 0 (λ x. omega arith) in
     let f : suc d - 1 ≡ d = omega arith in
-    ap (λ (b : Bool). after_sight (row_in ts) ts (pick b (S.On A.Between) (S.On (A.Within (suc d - 1))))) e ∙ ap (λ (k : ℕ). row_in ts (A.Within k)) f
+    ap (λ (b : Bool). after_sight (row_in ts) ts (Some (pick b (S.On A.Between) (S.On (A.Within (suc d - 1)))))) e ∙ ap (λ (k : ℕ). row_in ts (A.Within k)) f
 
 -- the wishes of statements, from the next one on
 abbrev pub rows_by : List Wish → Sighted → List Wish

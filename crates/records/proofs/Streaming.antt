@@ -24,20 +24,13 @@ use Rattle.records.specs.Machinery.Streams.{Spot, Among, values_from, conditions
 use Rattle.records.specs.Machinery.Streams.Hold.{outside, fresh, filled}
 use Rattle.records.proofs.Seeking.{sought_in, seeks}
 
-abbrev number : Verdict → ℕ
-number fine = 0
-number (refused k n) = 1
-
-never {ℓ} : {X : Type ℓ} (k n : ℕ) → refused k n ≡ fine → X
-never k n e = absurd (let z : ◌≡◌ {A = ℕ} 1 0 = ap number e in omega arith)
-
 -- two that are both fine; a member that is
 both-fine : (c m : Verdict) → following c m ≡ fine → (c ≡ fine) × (m ≡ fine)
 both-fine fine m e = (refl, e)
-both-fine (refused k n) m e = never k n e
+both-fine (refused k n) m e = absurd (cc)
 
 member-fine : (bad : Bool) (n : ℕ) (c m : Verdict) → pick bad (refused 21 n) (following c m) ≡ fine → (bad ≡ false) × (c ≡ fine) × (m ≡ fine)
-member-fine true n c m e = never 21 n e
+member-fine true n c m e = absurd (cc)
 member-fine false n c m e = (refl, (both-fine c m e).0, (both-fine c m e).1)
 
 -- strings
@@ -45,22 +38,22 @@ module _ (s : Sort) (r : List Wish) where
   each_from : (es : Tree several) (ts : List Token) → Mb.each_text es ≡ fine → values_from s r (flat es ts) filled ≡ each_wish s es r
   each_from (end_list n) ts e = refl
   each_from (element (text n bs) es) ts e = ap (λ (ws : List Wish). string_wish s n bs ∷ ws) (each_from es ts e)
-  each_from (element (other n) es) ts e = never 22 n e
-  each_from (element (list n xs) es) ts e = never 22 n e
-  each_from (element (object n ms) es) ts e = never 22 n e
+  each_from (element (other n) es) ts e = absurd (cc)
+  each_from (element (list n xs) es) ts e = absurd (cc)
+  each_from (element (object n ms) es) ts e = absurd (cc)
 
   list-from : (n : ℕ) (es : Tree several) (ts : List Token) → Mb.each_text es ≡ fine → values_from s r (flat es ts) (fresh n) ≡ list_wishes s n es r
   list-from n (end_list m) ts e = refl
   list-from n (element (text m bs) es) ts e = ap (λ (ws : List Wish). string_wish s m bs ∷ ws) (each_from es ts e)
-  list-from n (element (other m) es) ts e = never 22 m e
-  list-from n (element (list m xs) es) ts e = never 22 m e
-  list-from n (element (object m ms) es) ts e = never 22 m e
+  list-from n (element (other m) es) ts e = absurd (cc)
+  list-from n (element (list m xs) es) ts e = absurd (cc)
+  list-from n (element (object m ms) es) ts e = absurd (cc)
 
   pub values-from : (v : Tree one) (ts : List Token) → Mb.strings v ≡ fine → values_from s r (flat v ts) outside ≡ value_wishes s v r
   values-from (text n bs) ts e = refl
-  values-from (other n) ts e = never 22 n e
+  values-from (other n) ts e = absurd (cc)
   values-from (list n es) ts e = list-from n es ts e
-  values-from (object n ms) ts e = never 22 n e
+  values-from (object n ms) ts e = absurd (cc)
 
 -- AWS is the only name of a principal
 is-aws : (x : List ℕ) → is_bad (aws_kind x) (aws_kind x) 0 ≡ false → aws_kind x ≡ 1
@@ -75,9 +68,9 @@ pub principal-from : (v : Tree one) (ts : List Token) (r : List Wish) → Mb.pri
     → values_from S.Text r (flat v ts) outside ≡ value_wishes S.Text (holder v) r
 unfolding is_seen
 principal-from (text n bs) ts r e = refl
-principal-from (other n) ts r e = never 22 n e
-principal-from (list n es) ts r e = never 22 n e
-principal-from (object n (end_object m)) ts r e = never 22 m e
+principal-from (other n) ts r e = absurd (cc)
+principal-from (list n es) ts r e = absurd (cc)
+principal-from (object n (end_object m)) ts r e = absurd (cc)
 principal-from (object n (member m x v ms)) ts r e =
     let f = member-fine (is_bad (aws_kind x) (aws_kind x) 0) m (Mb.strings v) (Mb.aws (add 0 (aws_kind x)) ms) e in
     rw (is-aws x f.0) (values-from S.Text r v (flat ms ts) f.1)
@@ -88,24 +81,24 @@ module _ (r : List Wish) where
       → conditions_from r (flat es ts) (Spot.filled_list o) ≡ each_wish (row_of o).sort es (conditions_from r ts (Spot.keys o))
   each-condition o (end_list n) ts e = refl
   each-condition o (element (text n bs) es) ts e = ap (λ (ws : List Wish). string_wish (row_of o).sort n bs ∷ ws) (each-condition o es ts e)
-  each-condition o (element (other n) es) ts e = never 22 n e
-  each-condition o (element (list n xs) es) ts e = never 22 n e
-  each-condition o (element (object n ms) es) ts e = never 22 n e
+  each-condition o (element (other n) es) ts e = absurd (cc)
+  each-condition o (element (list n xs) es) ts e = absurd (cc)
+  each-condition o (element (object n ms) es) ts e = absurd (cc)
 
   list-condition : (o : Operator) (n : ℕ) (es : Tree several) (ts : List Token) → Mb.each_text es ≡ fine
       → conditions_from r (flat es ts) (Spot.empty_list o n) ≡ list_wishes (row_of o).sort n es (conditions_from r ts (Spot.keys o))
   list-condition o n (end_list m) ts e = refl
   list-condition o n (element (text m bs) es) ts e = ap (λ (ws : List Wish). string_wish (row_of o).sort m bs ∷ ws) (each-condition o es ts e)
-  list-condition o n (element (other m) es) ts e = never 22 m e
-  list-condition o n (element (list m xs) es) ts e = never 22 m e
-  list-condition o n (element (object m ms) es) ts e = never 22 m e
+  list-condition o n (element (other m) es) ts e = absurd (cc)
+  list-condition o n (element (list m xs) es) ts e = absurd (cc)
+  list-condition o n (element (object m ms) es) ts e = absurd (cc)
 
   value-condition : (o : Operator) (k : Key) (v : Tree one) (ts : List Token) → Mb.strings v ≡ fine
       → conditions_from r (flat v ts) (Spot.key o k) ≡ made (place v) (condition o k) ∷ value_wishes (row_of o).sort v (conditions_from r ts (Spot.keys o))
   value-condition o k (text n bs) ts e = refl
-  value-condition o k (other n) ts e = never 22 n e
+  value-condition o k (other n) ts e = absurd (cc)
   value-condition o k (list n es) ts e = ap (λ (ws : List Wish). made n (condition o k) ∷ ws) (list-condition o n es ts e)
-  value-condition o k (object n ms) ts e = never 22 n e
+  value-condition o k (object n ms) ts e = absurd (cc)
 
   key-conditions : (o : Operator) (seen : ℕ) (ms : Tree named) (ts : List Token) → Mb.keys seen ms ≡ fine
       → conditions_from r (flat ms ts) (Spot.keys o) ≡ key_wishes o ms (conditions_from r ts Spot.operators)
@@ -118,9 +111,9 @@ module _ (r : List Wish) where
 
   operator-value : (o : Operator) (v : Tree one) (ts : List Token) → Mb.operator v ≡ fine
       → conditions_from r (flat v ts) (Spot.operator o) ≡ key_wishes o (members_of v) (conditions_from r ts Spot.operators)
-  operator-value o (text n bs) ts e = never 22 n e
-  operator-value o (other n) ts e = never 22 n e
-  operator-value o (list n es) ts e = never 22 n e
+  operator-value o (text n bs) ts e = absurd (cc)
+  operator-value o (other n) ts e = absurd (cc)
+  operator-value o (list n es) ts e = absurd (cc)
   operator-value o (object n ms) ts e = key-conditions o 0 ms ts e
 
   operator-conditions : (seen : ℕ) (ms : Tree named) (ts : List Token) → Mb.operators seen ms ≡ fine
@@ -133,9 +126,9 @@ module _ (r : List Wish) where
 
   pub conditions-from : (v : Tree one) (ts : List Token) → Mb.condition v ≡ fine
       → conditions_from r (flat v ts) Spot.before ≡ operator_wishes (members_of v) r
-  conditions-from (text n bs) ts e = never 22 n e
-  conditions-from (other n) ts e = never 22 n e
-  conditions-from (list n es) ts e = never 22 n e
+  conditions-from (text n bs) ts e = absurd (cc)
+  conditions-from (other n) ts e = absurd (cc)
+  conditions-from (list n es) ts e = absurd (cc)
   conditions-from (object n ms) ts e = operator-conditions 0 ms ts e
 
 -- what a slot says of the value's type
@@ -212,9 +205,9 @@ effect-from _ _ (Same.both k v ts p q) = by v (is-text k v p q)
   where
     by : (v : Tree one) → Mb.any_text v ≡ fine → effect_on (flat v ts) ≡ effect_wish (place v) (bytes v)
     by (text n bs) e = refl
-    by (other n) e = never 22 n e
-    by (list n es) e = never 22 n e
-    by (object n ms) e = never 22 n e
+    by (other n) e = absurd (cc)
+    by (list n es) e = absurd (cc)
+    by (object n ms) e = absurd (cc)
 
 principal-element : (x : Sought) (y : Found) (r : List Wish) → Same 3 x y → element_from x r ≡ element_wishes holder y r
 principal-element _ _ r Same.neither = refl
@@ -268,16 +261,16 @@ module _ (r : List Wish) where
 
   each_row_lem : (es : Tree several) (ts : List Token) → Mb.each_row es ≡ fine → rows_from r (flat es ts) (Among.inside 0) ≡ row_wishes es r
   each_row_lem (end_list n) ts e = refl
-  each_row_lem (element (text n bs) es) ts e = never 22 n e
-  each_row_lem (element (other n) es) ts e = never 22 n e
-  each_row_lem (element (list n xs) es) ts e = never 22 n e
+  each_row_lem (element (text n bs) es) ts e = absurd (cc)
+  each_row_lem (element (other n) es) ts e = absurd (cc)
+  each_row_lem (element (list n xs) es) ts e = absurd (cc)
   each_row_lem (element (object n ms) es) ts e =
       let f = both-fine (Mb.row 0 ms) (Mb.each_row es) e in
       ap (row_from (flat ms (flat es ts))) (row-pass ms (flat es ts) ∙ each_row_lem es ts f.1) ∙ row_from_lem ms (flat es ts) (row_wishes es r) f.0
 
   pub rows-from : (v : Tree one) (ts : List Token) → Mb.rows v ≡ fine → rows_from r (flat v ts) Among.begin ≡ rows_wishes v r
-  rows-from (text n bs) ts e = never 22 n e
-  rows-from (other n) ts e = never 22 n e
+  rows-from (text n bs) ts e = absurd (cc)
+  rows-from (other n) ts e = absurd (cc)
   rows-from (list n es) ts e = each_row_lem es ts e
   rows-from (object n ms) ts e = row_from_lem ms ts r e
 
@@ -303,15 +296,15 @@ count-row (member n x v ms) ts = count-pass v (flat ms ts) 0 ∙ count-row ms ts
 
 count-each : (es : Tree several) (ts : List Token) → Mb.each_row es ≡ fine → count_from (flat es ts) (Among.inside 0) ≡ length (each_statement es)
 count-each (end_list n) ts e = refl
-count-each (element (text n bs) es) ts e = never 22 n e
-count-each (element (other n) es) ts e = never 22 n e
-count-each (element (list n xs) es) ts e = never 22 n e
+count-each (element (text n bs) es) ts e = absurd (cc)
+count-each (element (other n) es) ts e = absurd (cc)
+count-each (element (list n xs) es) ts e = absurd (cc)
 count-each (element (object n ms) es) ts e =
     ap suc (count-row ms (flat es ts) ∙ count-each es ts (both-fine (Mb.row 0 ms) (Mb.each_row es) e).1)
 
 count-from : (v : Tree one) (ts : List Token) → Mb.rows v ≡ fine → count_from (flat v ts) Among.begin ≡ length (statements_under v)
-count-from (text n bs) ts e = never 22 n e
-count-from (other n) ts e = never 22 n e
+count-from (text n bs) ts e = absurd (cc)
+count-from (other n) ts e = absurd (cc)
 count-from (list n es) ts e = count-each es ts e
 count-from (object n ms) ts e = refl
 
@@ -338,8 +331,8 @@ stated-from _ _ (Stated.both k v ts e) = rw (next_place_lem v ts, count-from v t
 
 -- the wishes from the tokens of a document that has no fault are those of its tree
 pub document-from : (v : Tree one) (ts : List Token) → Mb.document v ≡ fine → document_from (flat v ts) ≡ wishes v
-document-from (text n bs) ts e = never 22 n e
-document-from (other n) ts e = never 22 n e
-document-from (list n es) ts e = never 22 n e
+document-from (text n bs) ts e = absurd (cc)
+document-from (other n) ts e = absurd (cc)
+document-from (list n es) ts e = absurd (cc)
 document-from (object n ms) ts e =
     ap statement_from (seeks top_kind itself 2 ms ts) ∙ stated-from (sought_in top_kind itself 2 ms ts) (stated ms) (same-stated 0 ms ts e)

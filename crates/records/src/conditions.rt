@@ -12,8 +12,8 @@ use json_text::tokens::{Mark, next_token};
 use members::names::{key_name, operator_name};
 use stored::items::{Key, Operator};
 
-// Where the reading of conditions stands: before the value of Condition; among its operators, behind an operator's name, among its keys,
-// behind a key's name; before the value of a condition that was wished for; in its list, empty since a place, or not.
+/// Where the reading of conditions stands: before the value of Condition; among its operators, behind an operator's name, among its keys,
+/// behind a key's name; before the value of a condition that was wished for; in its list, empty since a place, or not.
 #[derive(Clone, Copy, Debug, PartialEq, Eq)]
 pub enum Spot {
     Before,
@@ -29,13 +29,12 @@ pub enum Spot {
 #[derive(Clone, Copy, Debug, PartialEq, Eq)]
 pub enum Turned {
     On(Spot),
-    // A condition, wished for before its value is read.
+    /// A condition, wished for before its value is read.
     Waits(Operator, Key),
-    // A string under an operator, and the spot behind it.
+    /// A string under an operator, and the spot behind it.
     Text(Operator, Spot),
-    // The place of an empty list, and the spot behind it.
+    /// The place of an empty list, and the spot behind it.
     Empty(usize, Spot),
-    Gone,
 }
 
 /// A wish, its place, and where to go on.
@@ -47,74 +46,74 @@ pub struct Said {
     pub spot: Spot,
 }
 
-fn on_name(spot: Spot, text: &[u8], from: usize) -> Turned
+fn on_name(spot: Spot, text: &[u8], from: usize) -> Option<Turned>
     ensures { result ≡ name_turn spot (content_of (drop from text.now)) }
 {
     match spot {
-        Spot::Operators => Turned::On(Spot::Operator(operator_at(operator_name(text, from)))),
-        Spot::Keys(operator) => Turned::On(Spot::Key(operator, key_at(key_name(text, from)))),
-        _ => Turned::Gone,
+        Spot::Operators => Some(Turned::On(Spot::Operator(operator_at(operator_name(text, from))))),
+        Spot::Keys(operator) => Some(Turned::On(Spot::Key(operator, key_at(key_name(text, from))))),
+        _ => None,
     }
 }
 
-fn on_text(spot: Spot) -> Turned
+fn on_text(spot: Spot) -> Option<Turned>
     ensures { result ≡ text_turn spot }
 {
     match spot {
-        Spot::Key(operator, key) => Turned::Waits(operator, key),
-        Spot::Value(operator) => Turned::Text(operator, Spot::Keys(operator)),
-        Spot::EmptyList(operator, _) => Turned::Text(operator, Spot::FilledList(operator)),
-        Spot::FilledList(operator) => Turned::Text(operator, Spot::FilledList(operator)),
-        _ => Turned::Gone,
+        Spot::Key(operator, key) => Some(Turned::Waits(operator, key)),
+        Spot::Value(operator) => Some(Turned::Text(operator, Spot::Keys(operator))),
+        Spot::EmptyList(operator, _) => Some(Turned::Text(operator, Spot::FilledList(operator))),
+        Spot::FilledList(operator) => Some(Turned::Text(operator, Spot::FilledList(operator))),
+        _ => None,
     }
 }
 
-fn on_list(spot: Spot, at: usize) -> Turned
+fn on_list(spot: Spot, at: usize) -> Option<Turned>
     ensures { result ≡ list_turn spot at }
 {
     match spot {
-        Spot::Key(operator, key) => Turned::Waits(operator, key),
-        Spot::Value(operator) => Turned::On(Spot::EmptyList(operator, at)),
-        _ => Turned::Gone,
+        Spot::Key(operator, key) => Some(Turned::Waits(operator, key)),
+        Spot::Value(operator) => Some(Turned::On(Spot::EmptyList(operator, at))),
+        _ => None,
     }
 }
 
-fn on_list_end(spot: Spot) -> Turned
+fn on_list_end(spot: Spot) -> Option<Turned>
     ensures { result ≡ list_end_turn spot }
 {
     match spot {
-        Spot::EmptyList(operator, place) => Turned::Empty(place, Spot::Keys(operator)),
-        Spot::FilledList(operator) => Turned::On(Spot::Keys(operator)),
-        _ => Turned::Gone,
+        Spot::EmptyList(operator, place) => Some(Turned::Empty(place, Spot::Keys(operator))),
+        Spot::FilledList(operator) => Some(Turned::On(Spot::Keys(operator))),
+        _ => None,
     }
 }
 
-fn on_object(spot: Spot) -> Turned
+fn on_object(spot: Spot) -> Option<Turned>
     ensures { result ≡ object_turn spot }
 {
     match spot {
-        Spot::Before => Turned::On(Spot::Operators),
-        Spot::Operator(operator) => Turned::On(Spot::Keys(operator)),
-        _ => Turned::Gone,
+        Spot::Before => Some(Turned::On(Spot::Operators)),
+        Spot::Operator(operator) => Some(Turned::On(Spot::Keys(operator))),
+        _ => None,
     }
 }
 
-fn on_object_end(spot: Spot) -> Turned
+fn on_object_end(spot: Spot) -> Option<Turned>
     ensures { result ≡ object_end_turn spot }
 {
     match spot {
-        Spot::Keys(_) => Turned::On(Spot::Operators),
-        _ => Turned::Gone,
+        Spot::Keys(_) => Some(Turned::On(Spot::Operators)),
+        _ => None,
     }
 }
 
-fn spot_turn(spot: Spot, event: Event, text: &[u8], at: usize, from: usize) -> Turned
+fn spot_turn(spot: Spot, event: Event, text: &[u8], at: usize, from: usize) -> Option<Turned>
     ensures { result ≡ spot_turn spot event at (content_of (drop from text.now)) }
 {
     match event {
         Event::Name => on_name(spot, text, from),
         Event::Text => on_text(spot),
-        Event::Other => Turned::Gone,
+        Event::Other => None,
         Event::OpenList => on_list(spot, at),
         Event::CloseList => on_list_end(spot),
         Event::OpenObject => on_object(spot),
@@ -131,7 +130,7 @@ pub(crate) fn next_condition(text: &[u8], from: Mark, start: Spot) -> Option<Sai
     while let Some(token) = next_token(text, here) {
         let place = token.at;
         let behind = token.behind;
-        match spot_turn(spot, token.event, text, place, place + 1) {
+        match spot_turn(spot, token.event, text, place, place + 1)? {
             Turned::On(further) => spot = further,
             // The value is read behind the wish: the next walk begins here again.
             Turned::Waits(operator, key) => {
@@ -158,7 +157,6 @@ pub(crate) fn next_condition(text: &[u8], from: Mark, start: Spot) -> Option<Sai
                     spot,
                 });
             }
-            Turned::Gone => return None,
         }
         here = behind;
     }

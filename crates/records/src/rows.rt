@@ -8,7 +8,7 @@ ghost use Rattle.records.specs.Machinery.Rows.{AtMost, deeper, higher, object, a
 use json_text::events::Event;
 use json_text::tokens::{Mark, next_token};
 
-// Before the value of Statement; between the statements of its list; so many brackets inside one of them.
+/// Before the value of Statement; between the statements of its list; so many brackets inside one of them.
 #[derive(Clone, Copy, Debug, PartialEq, Eq)]
 pub enum Among {
     Begin,
@@ -19,9 +19,8 @@ pub enum Among {
 #[derive(Clone, Copy, Debug, PartialEq, Eq)]
 pub enum Sight {
     On(Among),
-    // A statement begins; whether it stands in a list.
+    /// A statement begins; whether it stands in a list.
     Statement(bool),
-    Gone,
 }
 
 /// A statement: the place behind its brace, where its members begin, and whether it stands in a list.
@@ -42,16 +41,16 @@ fn deeper(among: Among) -> Among
     }
 }
 
-fn higher(among: Among) -> Sight
+fn higher(among: Among) -> Option<Sight>
     ensures { result ≡ higher among }
 {
     match among {
-        Among::Begin | Among::Between => Sight::Gone,
+        Among::Begin | Among::Between => None,
         Among::Within(depth) => {
             if depth == 0 {
-                Sight::On(Among::Between)
+                Some(Sight::On(Among::Between))
             } else {
-                Sight::On(Among::Within(depth - 1))
+                Some(Sight::On(Among::Within(depth - 1)))
             }
         }
     }
@@ -68,14 +67,14 @@ fn object(among: Among) -> Sight
     }
 }
 
-fn among_turn(among: Among, event: Event) -> Sight
+fn among_turn(among: Among, event: Event) -> Option<Sight>
     requires { AtMost 18446744073709551614 among }
     ensures { result ≡ among_turn among event }
 {
     match event {
-        Event::Name | Event::Text | Event::Other => Sight::On(among),
-        Event::OpenList => Sight::On(deeper(among)),
-        Event::OpenObject => object(among),
+        Event::Name | Event::Text | Event::Other => Some(Sight::On(among)),
+        Event::OpenList => Some(Sight::On(deeper(among))),
+        Event::OpenObject => Some(object(among)),
         Event::CloseList | Event::CloseObject => higher(among),
     }
 }
@@ -90,10 +89,9 @@ pub(crate) fn next_row(text: &[u8], from: Mark, start: Among) -> Option<Row>
     let mut among = start;
     while let Some(token) = next_token(text, here) {
         let members = token.behind;
-        match among_turn(among, token.event) {
+        match among_turn(among, token.event)? {
             Sight::On(further) => among = further,
             Sight::Statement(listed) => return Some(Row { members, listed }),
-            Sight::Gone => return None,
         }
         here = members;
     }

@@ -5,7 +5,7 @@ use crate::values::Hold;
 use crate::wishes::Wish;
 use json_text::tokens::Mark;
 
-// What a statement has behind its effect.
+/// What a statement has behind its effect.
 #[derive(Clone, Copy, Debug, PartialEq, Eq)]
 pub enum Part {
     Principal,
@@ -16,16 +16,16 @@ pub enum Part {
 
 #[derive(Clone, Copy, Debug, PartialEq, Eq)]
 pub enum Stage {
-    // Before the document.
+    /// Before the document.
     Begin,
-    // Before the value of Statement.
+    /// Before the value of Statement.
     Rows,
-    // Before a part of a statement.
+    /// Before a part of a statement.
     Parts(Part),
-    // In the value of an element, with the part that comes behind it.
+    /// In the value of an element, with the part that comes behind it.
     Values(Part, Hold),
     Conditions(Spot),
-    // Behind the last statement, and behind all.
+    /// Behind the last statement, and behind all.
     End,
     Over,
 }

@@ -9,7 +9,7 @@ ghost use Rattle.records.specs.Machinery.Cursors.{hold_of, heard_string, heard_e
 use json_text::events::Event;
 use json_text::tokens::{Mark, next_token};
 
-// No list is open; one that began at a place is still empty; one has a string.
+/// No list is open; one that began at a place is still empty; one has a string.
 #[derive(Clone, Copy, Debug, PartialEq, Eq)]
 pub enum Hold {
     Outside,
@@ -20,20 +20,19 @@ pub enum Hold {
 #[derive(Clone, Copy, Debug, PartialEq, Eq)]
 pub enum Heard {
     On(Hold),
-    // A string, alone or in a list.
+    /// A string, alone or in a list.
     Alone,
     Listed,
-    // The end of a list that has none.
+    /// The end of a list that has none.
     Empty(usize),
-    Gone,
 }
 
 #[derive(Clone, Copy, Debug, PartialEq, Eq)]
 pub enum Strings {
-    // The place of a string in a list, and where to go on.
+    /// The place of a string in a list, and where to go on.
     Listed(usize, Mark),
     Alone(usize),
-    // The place of an empty list.
+    /// The place of an empty list.
     Empty(usize),
 }
 
@@ -47,24 +46,24 @@ fn heard_string(hold: Hold) -> Heard
     }
 }
 
-fn heard_end(hold: Hold) -> Heard
+fn heard_end(hold: Hold) -> Option<Heard>
     ensures { result ≡ heard_end hold }
 {
     match hold {
-        Hold::Fresh(place) => Heard::Empty(place),
-        Hold::Outside | Hold::Filled => Heard::Gone,
+        Hold::Fresh(place) => Some(Heard::Empty(place)),
+        Hold::Outside | Hold::Filled => None,
     }
 }
 
-fn hold_turn(hold: Hold, event: Event, at: usize) -> Heard
+fn hold_turn(hold: Hold, event: Event, at: usize) -> Option<Heard>
     ensures { result ≡ hold_turn hold event at }
 {
     match event {
-        Event::Name | Event::OpenObject => Heard::On(hold),
-        Event::Text => heard_string(hold),
-        Event::OpenList => Heard::On(Hold::Fresh(at)),
+        Event::Name | Event::OpenObject => Some(Heard::On(hold)),
+        Event::Text => Some(heard_string(hold)),
+        Event::OpenList => Some(Heard::On(Hold::Fresh(at))),
         Event::CloseList => heard_end(hold),
-        Event::Other | Event::CloseObject => Heard::Gone,
+        Event::Other | Event::CloseObject => None,
     }
 }
 
@@ -75,12 +74,11 @@ pub(crate) fn next_string(text: &[u8], from: Mark, start: Hold) -> Option<String
     let mut here = from;
     let mut hold = start;
     while let Some(token) = next_token(text, here) {
-        match hold_turn(hold, token.event, token.at) {
+        match hold_turn(hold, token.event, token.at)? {
             Heard::On(further) => hold = further,
             Heard::Alone => return Some(Strings::Alone(token.at)),
             Heard::Listed => return Some(Strings::Listed(token.at, token.behind)),
             Heard::Empty(place) => return Some(Strings::Empty(place)),
-            Heard::Gone => return None,
         }
         here = token.behind;
     }

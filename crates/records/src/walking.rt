@@ -1,5 +1,5 @@
 // Walks over the tokens of a document: to the value of a member.
-ghost use Rattle.std.specs.Prelude.{◌≡◌, ◌<◌, ◌-◌, suc, drop, length};
+ghost use Rattle.std.specs.Prelude.{◌≡◌, ◌<◌, ◌-◌, suc, Some, drop, length};
 ghost use Rattle.json_text.specs.Machinery.Pieces.{content_of};
 ghost use Rattle.json_text.specs.Machinery.Marks.{tokens_at};
 ghost use Rattle.json_text.specs.declared.events.Event.TheVariants as E;
@@ -18,9 +18,8 @@ pub struct Member<N> {
 
 #[derive(Clone, Copy, Debug, PartialEq, Eq)]
 pub enum Moved<N> {
-    // So many brackets inside the object.
+    /// So many brackets inside the object.
     On(usize),
-    Gone,
     Here(N),
 }
 
@@ -35,7 +34,7 @@ pub(crate) fn place_from(text: &[u8], from: Mark) -> usize
 }
 
 fn at_name<N: Name>(like: N, depth: usize, text: &[u8], from: usize) -> Moved<N>
-    ensures { moved_of N.index result ≡ seek_turn N.kind_of N.slot_of (N.slot_of (suc (N.index like))) depth E.Name (content_of (drop from text.now)) }
+    ensures { moved_of N.index (Some result) ≡ seek_turn N.kind_of N.slot_of (N.slot_of (suc (N.index like))) depth E.Name (content_of (drop from text.now)) }
 {
     match N::named(text, from) {
         Some(name) => {
@@ -49,19 +48,25 @@ fn at_name<N: Name>(like: N, depth: usize, text: &[u8], from: usize) -> Moved<N>
     }
 }
 
-fn seek_turn<N: Name>(like: N, depth: usize, event: Event, text: &[u8], from: usize) -> Moved<N>
+fn seek_turn<N: Name>(
+    like: N,
+    depth: usize,
+    event: Event,
+    text: &[u8],
+    from: usize,
+) -> Option<Moved<N>>
     requires { depth < 18446744073709551615 }
     ensures { moved_of N.index result ≡ seek_turn N.kind_of N.slot_of (N.slot_of (suc (N.index like))) depth event (content_of (drop from text.now)) }
 {
     match event {
-        Event::Name => at_name(like, depth, text, from),
-        Event::Text | Event::Other => Moved::On(depth),
-        Event::OpenList | Event::OpenObject => Moved::On(depth + 1),
+        Event::Name => Some(at_name(like, depth, text, from)),
+        Event::Text | Event::Other => Some(Moved::On(depth)),
+        Event::OpenList | Event::OpenObject => Some(Moved::On(depth + 1)),
         Event::CloseList | Event::CloseObject => {
             if depth == 0 {
-                Moved::Gone
+                None
             } else {
-                Moved::On(depth - 1)
+                Some(Moved::On(depth - 1))
             }
         }
     }
@@ -75,9 +80,8 @@ pub(crate) fn seek_member<N: Name>(text: &[u8], from: Mark, like: N) -> Option<M
     let mut depth: usize = 0;
     while let Some(token) = next_token(text, here) {
         let value = token.behind;
-        match seek_turn(like, depth, token.event, text, token.at + 1) {
+        match seek_turn(like, depth, token.event, text, token.at + 1)? {
             Moved::On(further) => depth = further,
-            Moved::Gone => return None,
             Moved::Here(name) => return Some(Member { name, value }),
         }
         here = value;

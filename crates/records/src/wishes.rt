@@ -11,18 +11,18 @@ use stored::operators::operator_row;
 
 #[derive(Clone, Copy, Debug, PartialEq, Eq)]
 pub enum Wish {
-    // The number of statements.
+    /// The number of statements.
     Start(usize),
     Statement(Effect),
-    // Another Effect.
+    /// Another Effect.
     Strange,
     Column(Column),
     Condition(Operator, Key),
-    // An empty list.
+    /// An empty list.
     Empty,
-    // A string: its bytes are a value.
+    /// A string: its bytes are a value.
     Value,
-    // A string under an address operator.
+    /// A string under an address operator.
     Network,
     End,
 }

@@ -84,19 +84,19 @@ heard_string H.Outside = Hd.Alone
 heard_string (H.Fresh p) = Hd.Listed
 heard_string H.Filled = Hd.Listed
 
-abbrev pub heard_end : Hold → Heard
-heard_end H.Outside = Hd.Gone
-heard_end (H.Fresh p) = Hd.Empty p
-heard_end H.Filled = Hd.Gone
+abbrev pub heard_end : Hold → Option Heard
+heard_end H.Outside = None
+heard_end (H.Fresh p) = Some (Hd.Empty p)
+heard_end H.Filled = None
 
-abbrev pub hold_turn : Hold → Event → ℕ → Heard
-hold_turn h E.Name at = Hd.On h
-hold_turn h E.Text at = heard_string h
-hold_turn h E.Other at = Hd.Gone
-hold_turn h E.OpenList at = Hd.On (H.Fresh at)
+abbrev pub hold_turn : Hold → Event → ℕ → Option Heard
+hold_turn h E.Name at = Some (Hd.On h)
+hold_turn h E.Text at = Some (heard_string h)
+hold_turn h E.Other at = None
+hold_turn h E.OpenList at = Some (Hd.On (H.Fresh at))
 hold_turn h E.CloseList at = heard_end h
-hold_turn h E.OpenObject at = Hd.On h
-hold_turn h E.CloseObject at = Hd.Gone
+hold_turn h E.OpenObject at = Some (Hd.On h)
+hold_turn h E.CloseObject at = None
 
 abbrev pub strings_left : List ℕ → List Wish → Option Strings → List Wish
 strings_left t behind (Some (St.Listed p m)) = wish_of t W.Value p ∷ values_from So.Text behind (tokens_at t m) Streams.Hold.filled
@@ -115,70 +115,70 @@ spot_of t (Sp.Value o) = Streams.Spot.value o
 spot_of t (Sp.EmptyList o p) = Streams.Spot.empty_list o (length t - p)
 spot_of t (Sp.FilledList o) = Streams.Spot.filled_list o
 
-abbrev pub name_turn : Spot → List ℕ → Turned
-name_turn Sp.Before x = Tu.Gone
-name_turn Sp.Operators x = Tu.On (Sp.Operator (operator_at (operator_kind x)))
-name_turn (Sp.Operator o) x = Tu.Gone
-name_turn (Sp.Keys o) x = Tu.On (Sp.Key o (key_at (key_kind x)))
-name_turn (Sp.Key o k) x = Tu.Gone
-name_turn (Sp.Value o) x = Tu.Gone
-name_turn (Sp.EmptyList o p) x = Tu.Gone
-name_turn (Sp.FilledList o) x = Tu.Gone
+abbrev pub name_turn : Spot → List ℕ → Option Turned
+name_turn Sp.Before x = None
+name_turn Sp.Operators x = Some (Tu.On (Sp.Operator (operator_at (operator_kind x))))
+name_turn (Sp.Operator o) x = None
+name_turn (Sp.Keys o) x = Some (Tu.On (Sp.Key o (key_at (key_kind x))))
+name_turn (Sp.Key o k) x = None
+name_turn (Sp.Value o) x = None
+name_turn (Sp.EmptyList o p) x = None
+name_turn (Sp.FilledList o) x = None
 
-abbrev pub text_turn : Spot → Turned
-text_turn Sp.Before = Tu.Gone
-text_turn Sp.Operators = Tu.Gone
-text_turn (Sp.Operator o) = Tu.Gone
-text_turn (Sp.Keys o) = Tu.Gone
-text_turn (Sp.Key o k) = Tu.Waits o k
-text_turn (Sp.Value o) = Tu.Text o (Sp.Keys o)
-text_turn (Sp.EmptyList o p) = Tu.Text o (Sp.FilledList o)
-text_turn (Sp.FilledList o) = Tu.Text o (Sp.FilledList o)
+abbrev pub text_turn : Spot → Option Turned
+text_turn Sp.Before = None
+text_turn Sp.Operators = None
+text_turn (Sp.Operator o) = None
+text_turn (Sp.Keys o) = None
+text_turn (Sp.Key o k) = Some (Tu.Waits o k)
+text_turn (Sp.Value o) = Some (Tu.Text o (Sp.Keys o))
+text_turn (Sp.EmptyList o p) = Some (Tu.Text o (Sp.FilledList o))
+text_turn (Sp.FilledList o) = Some (Tu.Text o (Sp.FilledList o))
 
-abbrev pub list_turn : Spot → ℕ → Turned
-list_turn Sp.Before at = Tu.Gone
-list_turn Sp.Operators at = Tu.Gone
-list_turn (Sp.Operator o) at = Tu.Gone
-list_turn (Sp.Keys o) at = Tu.Gone
-list_turn (Sp.Key o k) at = Tu.Waits o k
-list_turn (Sp.Value o) at = Tu.On (Sp.EmptyList o at)
-list_turn (Sp.EmptyList o p) at = Tu.Gone
-list_turn (Sp.FilledList o) at = Tu.Gone
+abbrev pub list_turn : Spot → ℕ → Option Turned
+list_turn Sp.Before at = None
+list_turn Sp.Operators at = None
+list_turn (Sp.Operator o) at = None
+list_turn (Sp.Keys o) at = None
+list_turn (Sp.Key o k) at = Some (Tu.Waits o k)
+list_turn (Sp.Value o) at = Some (Tu.On (Sp.EmptyList o at))
+list_turn (Sp.EmptyList o p) at = None
+list_turn (Sp.FilledList o) at = None
 
-abbrev pub list_end_turn : Spot → Turned
-list_end_turn Sp.Before = Tu.Gone
-list_end_turn Sp.Operators = Tu.Gone
-list_end_turn (Sp.Operator o) = Tu.Gone
-list_end_turn (Sp.Keys o) = Tu.Gone
-list_end_turn (Sp.Key o k) = Tu.Gone
-list_end_turn (Sp.Value o) = Tu.Gone
-list_end_turn (Sp.EmptyList o p) = Tu.Empty p (Sp.Keys o)
-list_end_turn (Sp.FilledList o) = Tu.On (Sp.Keys o)
+abbrev pub list_end_turn : Spot → Option Turned
+list_end_turn Sp.Before = None
+list_end_turn Sp.Operators = None
+list_end_turn (Sp.Operator o) = None
+list_end_turn (Sp.Keys o) = None
+list_end_turn (Sp.Key o k) = None
+list_end_turn (Sp.Value o) = None
+list_end_turn (Sp.EmptyList o p) = Some (Tu.Empty p (Sp.Keys o))
+list_end_turn (Sp.FilledList o) = Some (Tu.On (Sp.Keys o))
 
-abbrev pub object_turn : Spot → Turned
-object_turn Sp.Before = Tu.On Sp.Operators
-object_turn Sp.Operators = Tu.Gone
-object_turn (Sp.Operator o) = Tu.On (Sp.Keys o)
-object_turn (Sp.Keys o) = Tu.Gone
-object_turn (Sp.Key o k) = Tu.Gone
-object_turn (Sp.Value o) = Tu.Gone
-object_turn (Sp.EmptyList o p) = Tu.Gone
-object_turn (Sp.FilledList o) = Tu.Gone
+abbrev pub object_turn : Spot → Option Turned
+object_turn Sp.Before = Some (Tu.On Sp.Operators)
+object_turn Sp.Operators = None
+object_turn (Sp.Operator o) = Some (Tu.On (Sp.Keys o))
+object_turn (Sp.Keys o) = None
+object_turn (Sp.Key o k) = None
+object_turn (Sp.Value o) = None
+object_turn (Sp.EmptyList o p) = None
+object_turn (Sp.FilledList o) = None
 
-abbrev pub object_end_turn : Spot → Turned
-object_end_turn Sp.Before = Tu.Gone
-object_end_turn Sp.Operators = Tu.Gone
-object_end_turn (Sp.Operator o) = Tu.Gone
-object_end_turn (Sp.Keys o) = Tu.On Sp.Operators
-object_end_turn (Sp.Key o k) = Tu.Gone
-object_end_turn (Sp.Value o) = Tu.Gone
-object_end_turn (Sp.EmptyList o p) = Tu.Gone
-object_end_turn (Sp.FilledList o) = Tu.Gone
+abbrev pub object_end_turn : Spot → Option Turned
+object_end_turn Sp.Before = None
+object_end_turn Sp.Operators = None
+object_end_turn (Sp.Operator o) = None
+object_end_turn (Sp.Keys o) = Some (Tu.On Sp.Operators)
+object_end_turn (Sp.Key o k) = None
+object_end_turn (Sp.Value o) = None
+object_end_turn (Sp.EmptyList o p) = None
+object_end_turn (Sp.FilledList o) = None
 
-abbrev pub spot_turn : Spot → Event → ℕ → List ℕ → Turned
+abbrev pub spot_turn : Spot → Event → ℕ → List ℕ → Option Turned
 spot_turn p E.Name at x = name_turn p x
 spot_turn p E.Text at x = text_turn p
-spot_turn p E.Other at x = Tu.Gone
+spot_turn p E.Other at x = None
 spot_turn p E.OpenList at x = list_turn p at
 spot_turn p E.CloseList at x = list_end_turn p
 spot_turn p E.OpenObject at x = object_turn p

@@ -30,23 +30,23 @@ deeper A.Begin = A.Between
 deeper A.Between = A.Within 0
 deeper (A.Within d) = A.Within (d + 1)
 
-abbrev pub higher : Among → Sight
-higher A.Begin = S.Gone
-higher A.Between = S.Gone
-higher (A.Within d) = pick (eqb d 0) (S.On A.Between) (S.On (A.Within (d - 1)))
+abbrev pub higher : Among → Option Sight
+higher A.Begin = None
+higher A.Between = None
+higher (A.Within d) = Some (pick (eqb d 0) (S.On A.Between) (S.On (A.Within (d - 1))))
 
 abbrev pub object : Among → Sight
 object A.Begin = S.Statement false
 object A.Between = S.Statement true
 object (A.Within d) = S.On (A.Within (d + 1))
 
-abbrev pub among_turn : Among → Event → Sight
-among_turn a E.Name = S.On a
-among_turn a E.Text = S.On a
-among_turn a E.Other = S.On a
-among_turn a E.OpenList = S.On (deeper a)
+abbrev pub among_turn : Among → Event → Option Sight
+among_turn a E.Name = Some (S.On a)
+among_turn a E.Text = Some (S.On a)
+among_turn a E.Other = Some (S.On a)
+among_turn a E.OpenList = Some (S.On (deeper a))
 among_turn a E.CloseList = higher a
-among_turn a E.OpenObject = object a
+among_turn a E.OpenObject = Some (object a)
 among_turn a E.CloseObject = higher a
 
 -- the tokens behind a statement's brace, and whether it stands in a list
@@ -54,10 +54,10 @@ pub data Sighted : Type 0 where
   none : Sighted
   seen : List Token → Bool → Sighted
 
-abbrev pub after_sight : (Among → Sighted) → List Token → Sight → Sighted
-after_sight go ts (S.On a) = go a
-after_sight go ts (S.Statement listed) = seen ts listed
-after_sight go ts S.Gone = none
+abbrev pub after_sight : (Among → Sighted) → List Token → Option Sight → Sighted
+after_sight go ts (Some (S.On a)) = go a
+after_sight go ts (Some (S.Statement listed)) = seen ts listed
+after_sight go ts None = none
 
 abbrev pub row_in : List Token → Among → Sighted
 row_in [] a = none

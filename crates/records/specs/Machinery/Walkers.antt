@@ -23,10 +23,10 @@ pub data Moved : Type 0 where
   Here : ℕ → Moved
 
 -- as code says it
-abbrev pub moved_of : {N : Type 0} → (N → ℕ) → Code.Moved N → Moved
-moved_of index (M.On d) = On d
-moved_of index M.Gone = Gone
-moved_of index (M.Here name) = Here (suc (index name))
+abbrev pub moved_of : {N : Type 0} → (N → ℕ) → Option (Code.Moved N) → Moved
+moved_of index None = Gone
+moved_of index (Some (M.On d)) = On d
+moved_of index (Some (M.Here name)) = Here (suc (index name))
 
 -- a member's kind, and the tokens behind its name
 pub data Sought : Type 0 where
