@@ -1,16 +1,7 @@
 -- What the reader finds is what is answered, and nothing else is answered.
-use Prim.Native.Nat.{ℕ, ◌+◌, ◌-◌, ◌≤◌, ◌<◌}
-use mathlib.Core.Bool.{Bool, true, false}
-use mathlib.Core.Path.{◌≡◌, refl, sym, ◌∙◌, ap, subst}
-use mathlib.Core.List.{List, [], ◌++◌}
-use native.Mathlib.Omega.{arith}
-use lib.Dec.{ltb}
-use lib.ListN.{length, take, drop, take-append-drop}
-use borrow.Author.Tests.{lt-ltb, le-ltb, ltb-true, ltb-false}
+use Rattle.std.proofs.Common.{Option, Some, None, ℕ, ◌+◌, ◌-◌, ◌≤◌, ◌<◌, Bool, true, false, ◌≡◌, refl, sym, ◌∙◌, ap, subst, List, [], ◌++◌, arith, ltb, length, take, drop, take-append-drop, lt-ltb, le-ltb, ltb-true, ltb-false}
 use Rattle.json_text.specs.Grammar.{Text}
 use Rattle.json_text.specs.Machinery.Reading.{fault_of}
-use Rattle.json_text.specs.declared.reader.Fault.{Fault}
-use Rattle.json_text.specs.declared.reader.Fault.TheVariants as F
 use Rattle.json_text.specs.Answers.{Says}
 use Rattle.json_text.proofs.Answering.{json-first-fault, json-sound}
 use Rattle.json_text.proofs.Promises.{one-fault}
@@ -20,15 +11,14 @@ use Rattle.stored.specs.Writing.{fresh_writer}
 use Rattle.stored.specs.Entries.{Entry, encode}
 use Rattle.stored.specs.Tables.{Statement, rows_of}
 use Rattle.stored.specs.Reading.{reading}
-use Rattle.stored.specs.declared.reader.ReadAnswer.TheVariants as R
+use Rattle.stored.specs.Reading.{ReadAnswer as R}
 use Rattle.stored.proofs.Promises.{written-so-far, three-elements}
 use Rattle.members.specs.Members.{Verdict}
 use Rattle.members.specs.Faults.{faults, Decides}
 use Rattle.members.specs.Machinery.Verdicts.{document}
 use Rattle.members.specs.Members.Verdict.{fine, refused}
 use Rattle.members.specs.Machinery.Levels.{members_of}
-use Rattle.members.specs.declared.checking.Checked.{Checked}
-use Rattle.members.specs.declared.checking.Checked.TheVariants as C
+use Rattle.members.specs.Answers.{Checked as C, Checked}
 use Rattle.members.proofs.FirstFault.{first, first-fault}
 use Rattle.members.proofs.Answering.{json-members, json-lowest}
 use Rattle.members.proofs.Promises.{one-decision}
@@ -43,8 +33,8 @@ use Rattle.policy.specs.Answers.{document_of, table_for, Taken, JsonAnswered}
 use Rattle.policy.specs.Answers.JsonAnswered.{no_text, wrong_member, wrong_record, too_long, no_room, written}
 use Rattle.policy.specs.Machinery.Runs.{wishes_of, capped, dried, dried_from, dried_of, pouring, poured_of}
 use Rattle.policy.specs.Machinery.Endings.{Ending, Ends, by_records, by_members, ending_of}
-use Rattle.policy.specs.declared.trying.Dried.TheVariants as D
-use Rattle.policy.specs.declared.reader.JsonAnswer.{JsonAnswer}
+use Rattle.policy.specs.Machinery.Runs.{Dried as D}
+use Rattle.policy.specs.Answers.{JsonAnswer}
 use Rattle.policy.proofs.DryRuns.{capped_same}
 use Rattle.policy.proofs.Pouring.{size-encode, pours}
 
@@ -122,7 +112,7 @@ module _ {t : List ℕ} (buffer : List ℕ) (x : Text t) where
 
 -- what is answered is what the reader finds
 pub found : {t buffer : List ℕ} {r : JsonAnswer} {left : List ℕ} → JsonAnswered t buffer r left → ending_of t buffer ≡ record { answer = r; left = left }
-found {t} {buffer} (no_text {p} f) = rw (one-fault t (fault_of t) (F.At p) (json-first-fault t) f)
+found {t} {buffer} (no_text {p} f) = rw (one-fault t (fault_of t) (Some p) (json-first-fault t) f)
 found {t} {buffer} (wrong_member {k} {p} x l) =
     at-members buffer x ∙ ap (by_members t buffer) (one-decision (length t) (faults (document_of x)) (members_of t) (C.Refused k p) (json-lowest t x) l)
 found {t} {buffer} (wrong_record {k} {n} x e f) = at_records buffer x e ∙ rw (dried-refused x e k n f)
@@ -135,36 +125,36 @@ found {t} {buffer} (written x h a b) =
     ∙ rw (capped_same (length (table_for x)) (omega arith), le-ltb 16384 (length (table_for x)) a, le-ltb (length buffer) (length (table_for x)) b, poured x h.sound_members buffer h.sound_records a b)
 
 -- some answer to a text and a buffer
-pub record Some (t buffer : List ℕ) : Type 0 where
+pub record SomeAnswer (t buffer : List ℕ) : Type 0 where
   pub answer : JsonAnswer
   pub left : List ℕ
   pub answered : JsonAnswered t buffer answer left
 
 -- that of a text, by one of its derivations
 module _ {t : List ℕ} (buffer : List ℕ) (x : Text t) where
-  some_size : Taken x → (p q : Bool) → ltb 16384 (length (table_for x)) ≡ p → ltb (length buffer) (length (table_for x)) ≡ q → Some t buffer
+  some_size : Taken x → (p q : Bool) → ltb 16384 (length (table_for x)) ≡ p → ltb (length buffer) (length (table_for x)) ≡ q → SomeAnswer t buffer
   some_size h true q e f = record { answer = _; left = _; answered = too_long x h (ltb-true 16384 (length (table_for x)) e) }
   some_size h false true e f =
       record { answer = _; left = _; answered = no_room x h (ltb-false 16384 (length (table_for x)) e) (ltb-true (length buffer) (length (table_for x)) f) }
   some_size h false false e f =
       record { answer = _; left = _; answered = written x h (ltb-false 16384 (length (table_for x)) e) (ltb-false (length buffer) (length (table_for x)) f) }
 
-  some-record : faults (document_of x) ≡ [] → (v : Verdict) → records_of (document_of x) ≡ v → Some t buffer
+  some-record : faults (document_of x) ≡ [] → (v : Verdict) → records_of (document_of x) ≡ v → SomeAnswer t buffer
   some-record e fine f =
       some_size (record { sound_members = e; sound_records = f }) (ltb 16384 (length (table_for x))) (ltb (length buffer) (length (table_for x))) refl refl
   some-record e (refused k n) f = record { answer = _; left = _; answered = wrong_record x e f }
 
-  some-member : (r : Checked) → Decides (length t) (faults (document_of x)) r → Some t buffer
+  some-member : (r : Checked) → Decides (length t) (faults (document_of x)) r → SomeAnswer t buffer
   some-member C.Sound e = some-record e (records_of (document_of x)) refl
   some-member (C.Refused k p) l = record { answer = _; left = _; answered = wrong_member x l }
 
 -- every text and buffer has an answer
-pub some-answer : (t buffer : List ℕ) → Some t buffer
+pub some-answer : (t buffer : List ℕ) → SomeAnswer t buffer
 some-answer t buffer = by (fault_of t) (json-first-fault t)
   where
-    by : (g : Fault) → Says t g → Some t buffer
-    by F.Nothing x = some-member buffer x (members_of t) (json-lowest t x)
-    by (F.At p) f = record { answer = _; left = _; answered = no_text f }
+    by : (g : Option ℕ) → Says t g → SomeAnswer t buffer
+    by None x = some-member buffer x (members_of t) (json-lowest t x)
+    by (Some p) f = record { answer = _; left = _; answered = no_text f }
 
 -- what the reader finds is answered
 pub answers : (t buffer : List ℕ) (r : JsonAnswer) (left : List ℕ) → Ends (ending_of t buffer) r left → JsonAnswered t buffer r left

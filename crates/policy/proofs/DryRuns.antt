@@ -1,19 +1,11 @@
 -- The dry run, one wish after the other.
-use Prim.Native.Nat.{ℕ, ◌+◌, ◌-◌, ◌≤◌}
-use mathlib.Core.Bool.{Bool, true, false}
-use mathlib.Core.Path.{◌≡◌, refl, sym, ◌∙◌, ap}
-use mathlib.Core.List.{List, [], ◌∷◌}
-use native.Mathlib.Omega.{arith}
-use lib.Dec.{ltb}
-use lib.ListN.{length, drop}
-use borrow.Author.Tests.{lt-ltb, ltb-true, ltb-false}
+use Rattle.std.proofs.Common.{ℕ, ◌+◌, ◌-◌, ◌≤◌, Bool, true, false, ◌≡◌, refl, sym, ◌∙◌, ap, List, [], ◌∷◌, arith, ltb, length, drop, lt-ltb, ltb-true, ltb-false}
 use Rattle.json_text.specs.Choice.{pick}
 use Rattle.json_text.specs.Machinery.Pieces.{content_of}
 use Rattle.stored.specs.Writing.{would_take}
 use Rattle.stored.specs.declared.machine.State.{State}
-use Rattle.stored.specs.declared.machine.Turn.{Turn}
-use Rattle.stored.specs.declared.machine.Turn.TheVariants as T
-use Rattle.stored.specs.declared.writer.Would.TheVariants as O
+use Rattle.stored.specs.Machine.{Turn as T, Turn}
+use Rattle.stored.specs.Writing.{Would as O}
 use Rattle.stored.proofs.Choosing.{never}
 use Rattle.members.specs.Members.{Verdict}
 use Rattle.members.specs.Members.Verdict.{fine, refused}
@@ -27,7 +19,7 @@ use Rattle.records.specs.declared.wishes.Wish as Code
 use Rattle.records.specs.declared.wishes.Wish.TheVariants as W
 use Rattle.policy.specs.Machinery.Asking.{wish_record, wish_would}
 use Rattle.policy.specs.Machinery.Runs.{capped, dried, dried_from}
-use Rattle.policy.specs.declared.trying.Dried.TheVariants as D
+use Rattle.policy.specs.Machinery.Runs.{Dried as D}
 
 -- sums that are told up to 16,385
 pub capped_small : (n : ℕ) → capped n ≤ 16385

@@ -1,9 +1,5 @@
 -- A cursor at the beginning has all wishes of the text before it.
-use Prim.Native.Nat.{ℕ, ◌<◌}
-use mathlib.Core.Path.{◌≡◌, ap}
-use mathlib.Core.List.{List, ◌∷◌}
-use native.Mathlib.Omega.{arith}
-use lib.ListN.{length}
+use Rattle.std.proofs.Common.{ℕ, ◌<◌, ◌≡◌, ap, List, ◌∷◌, arith, length}
 use Rattle.records.specs.Wishes.{Wish}
 use Rattle.records.specs.Machinery.Cursors.{wishes_left, first_cursor}
 use Rattle.records.proofs.Wishing as Wishing

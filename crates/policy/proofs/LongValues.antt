@@ -1,13 +1,5 @@
 -- A value of over 128 bytes is refused whatever its bytes are, so that its first 129 stand for it.
-use Prim.Native.Nat.{ℕ, ◌<◌}
-use mathlib.Core.Bool.{Bool, true, false, ◌&&◌, ◌||◌, not}
-use mathlib.Core.Path.{◌≡◌, refl, sym, ◌∙◌}
-use mathlib.Core.List.{List}
-use native.Mathlib.Omega.{arith}
-use lib.Dec.{eqb, leb, ltb}
-use lib.ListN.{length, take}
-use lib.Seq.{take_all, length-take-le}
-use borrow.Author.Tests.{lt-ltb, leb-true, leb-false}
+use Rattle.std.proofs.Common.{ℕ, ◌<◌, Bool, true, false, ◌&&◌, ◌||◌, not, ◌≡◌, refl, sym, ◌∙◌, List, arith, eqb, leb, ltb, length, take, take_all, length-take-le, lt-ltb, leb-true, leb-false}
 use Rattle.stored.specs.Choice.{pick}
 use Rattle.stored.specs.Machine.{due_of, takes_kind, value_fault, value_turn, admit_item, is_text, sound_in}
 use Rattle.stored.specs.Values.{in_range, has_variable}
@@ -17,8 +9,7 @@ use Rattle.stored.specs.declared.records.Kind.TheVariants as K
 use Rattle.stored.specs.declared.machine.Phase.{Phase}
 use Rattle.stored.specs.declared.machine.Phase.TheVariants as P
 use Rattle.stored.specs.declared.machine.State.{State}
-use Rattle.stored.specs.declared.machine.Turn.{Turn}
-use Rattle.stored.specs.declared.machine.Turn.TheVariants as T
+use Rattle.stored.specs.Machine.{Turn as T, Turn}
 use Rattle.stored.proofs.Choosing.{never}
 
 same_kind : (p : Phase) (left n : ℕ) → takes_kind p left (K.Value n) ≡ takes_kind p left (K.Value 0)

@@ -1,12 +1,6 @@
 -- The numbers of refusals: 21 and 22 for members, 3 to 8 for records.
 use Prim.{tt}
-use Prim.Native.Nat.{ℕ, ◌≤◌}
-use mathlib.Core.Bool.{Bool, true, false, ◌||◌}
-use mathlib.Core.Path.{◌≡◌, sym}
-use mathlib.Core.List.{List, [], ◌∷◌, ◌++◌}
-use native.Mathlib.Omega.{arith}
-use lib.Dec.{eqb, leb, ltb}
-use lib.ListN.{length}
+use Rattle.std.proofs.Common.{ℕ, ◌≤◌, Bool, true, false, ◌||◌, ◌≡◌, sym, List, [], ◌∷◌, ◌++◌, arith, eqb, leb, ltb, length}
 use Rattle.json_text.specs.Choice.{pick, same_bytes}
 use Rattle.json_text.specs.Texts.{ascii}
 use Rattle.json_text.specs.Trees.{Tree}
@@ -15,8 +9,7 @@ use Rattle.json_text.specs.Trees.Tree.{text, other, list, object, end_list, elem
 use Rattle.stored.specs.Machine.{admit_item}
 use Rattle.stored.specs.Entries.{item_of, bytes_of}
 use Rattle.stored.specs.declared.machine.State.{State}
-use Rattle.stored.specs.declared.machine.Turn.{Turn}
-use Rattle.stored.specs.declared.machine.Turn.TheVariants as T
+use Rattle.stored.specs.Machine.{Turn as T, Turn}
 use Rattle.stored.proofs.Numbers.{Numbered, refused-item}
 use Rattle.stored.proofs.Choosing.{never}
 use Rattle.members.specs.Members.{top_kind, row_kind, aws_kind, operator_kind, key_kind, row_slot, itself, version_text}

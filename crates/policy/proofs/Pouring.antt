@@ -1,20 +1,13 @@
 -- The writing of wishes, one after the other, and what it leaves where none is refused.
-use Prim.Native.Nat.{ℕ, ◌+◌}
-use mathlib.Core.Bool.{Bool, true, false}
-use mathlib.Core.Path.{◌≡◌, refl, sym, ◌∙◌, ap}
-use mathlib.Core.List.{List, [], ◌∷◌}
-use lib.Dec.{ltb}
-use Rattle.json_text.specs.Choice.{pick}
-use lib.ListN.{length, length-append}
+use Rattle.std.proofs.Common.{ℕ, ◌+◌, Bool, true, false, ◌≡◌, refl, sym, ◌∙◌, ap, List, [], ◌∷◌, ltb, length, length-append}
 use lib.Seq.{sets}
+use Rattle.json_text.specs.Choice.{pick}
 use Rattle.stored.specs.Writing.{record_of, writing, buffer_after}
 use Rattle.stored.specs.Entries.{item_of, bytes_of, encode, Writes}
 use Rattle.stored.specs.declared.machine.State.{State}
-use Rattle.stored.specs.declared.machine.Turn.{Turn}
-use Rattle.stored.specs.declared.machine.Turn.TheVariants as T
+use Rattle.stored.specs.Machine.{Turn as T, Turn}
 use Rattle.stored.specs.declared.writer.Writer.{Writer}
-use Rattle.stored.specs.declared.writer.WriteAnswer.{WriteAnswer}
-use Rattle.stored.specs.declared.writer.WriteAnswer.TheVariants as W
+use Rattle.stored.specs.Writing.{WriteAnswer as W, WriteAnswer}
 use Rattle.stored.proofs.Choosing.{never}
 use Rattle.members.specs.Members.Verdict.{fine}
 use Rattle.records.specs.Wishes.{Wish, entries}

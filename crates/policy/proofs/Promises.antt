@@ -1,12 +1,6 @@
 -- What the reader of policies promises, in statements that can be read without their proofs. `JsonAnswered` is its contract: what is answered for
 -- a text and a buffer, and what the buffer then holds.
-use Prim.Native.Nat.{ℕ}
-use mathlib.Core.Path.{◌≡◌, refl, sym, ◌∙◌, ap}
-use mathlib.Core.List.{List}
-use mathlib.Core.Logic.{◌↔◌}
-use native.Mathlib.Omega.{arith}
-use lib.ListN.{length, take, drop}
-use lib.Seq.{take_at, drop_at}
+use Rattle.std.proofs.Common.{ℕ, ◌≡◌, refl, sym, ◌∙◌, ap, List, ◌↔◌, arith, length, take, drop, take_at, drop_at}
 use Rattle.json_text.specs.Grammar.{Text, FirstFault}
 use Rattle.json_text.specs.Trees.{Tree}
 use Rattle.json_text.specs.Trees.Shape.{one}
@@ -14,7 +8,7 @@ use Rattle.json_text.proofs.Promises.{one-tree}
 use Rattle.stored.specs.Machine.{fresh_state}
 use Rattle.stored.specs.Reading.{reading}
 use Rattle.stored.specs.Tables.{Statement, rows_of}
-use Rattle.stored.specs.declared.reader.ReadAnswer.TheVariants as R
+use Rattle.stored.specs.Reading.{ReadAnswer as R}
 use Rattle.stored.proofs.Choosing.{never}
 use Rattle.records.specs.Documents.{statements_of}
 use Rattle.records.specs.Wishes.{wishes}
@@ -23,8 +17,7 @@ use Rattle.policy.specs.Answers.JsonAnswered.{no_text, wrong_member, wrong_recor
 use Rattle.records.specs.Networks as N
 use Rattle.records.specs.Networks.{network_of}
 use Rattle.policy.specs.Networks.{IsNetwork}
-use Rattle.policy.specs.declared.reader.JsonAnswer.{JsonAnswer}
-use Rattle.policy.specs.declared.reader.JsonAnswer.TheVariants as A
+use Rattle.policy.specs.Answers.{JsonAnswer as A, JsonAnswer}
 use Rattle.policy.proofs.Numbers.{member-number, record-number}
 use Rattle.policy.proofs.NetworksAre.{says-read, read-says}
 use Rattle.policy.proofs.Answering.{some-answer, one_answer, table-reads}

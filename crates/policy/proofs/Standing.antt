@@ -1,13 +1,5 @@
 -- The item that stands for a wish does in the machine and in the writer what the wish does.
-use Prim.Native.Nat.{ℕ, ◌+◌, ◌-◌, ◌≤◌}
-use mathlib.Core.Bool.{Bool, true, false}
-use mathlib.Core.Path.{◌≡◌, refl, sym, ◌∙◌, ap}
-use mathlib.Core.List.{List, []}
-use native.Mathlib.Omega.{arith}
-use lib.Dec.{eqb, leb, ltb}
-use lib.ListN.{length, take, drop}
-use lib.Seq.{length-take-le, take_all, drop-drop}
-use borrow.Author.Tests.{lt-ltb, leb-true, leb-false, ne_eqb, ltb-false}
+use Rattle.std.proofs.Common.{Ok, ℕ, ◌+◌, ◌-◌, ◌≤◌, Bool, true, false, ◌≡◌, refl, sym, ◌∙◌, ap, List, [], arith, eqb, leb, ltb, length, take, drop, length-take-le, take_all, drop-drop, lt-ltb, leb-true, leb-false, ne_eqb, ltb-false}
 use Rattle.json_text.specs.Choice.{pick}
 use Rattle.stored.specs.Machine.{admit_item, due_of, start_turn, counted_state}
 use Rattle.stored.specs.Writing.{record_of, placing, writing, buffer_after, would_take, would_write}
@@ -16,18 +8,15 @@ use Rattle.stored.specs.declared.items.Item.{Item}
 use Rattle.stored.specs.declared.items.Item.TheVariants as I
 use Rattle.stored.specs.declared.records.Kind.TheVariants as K
 use Rattle.stored.specs.declared.machine.State.{State}
-use Rattle.stored.specs.declared.machine.Turn.{Turn}
-use Rattle.stored.specs.declared.machine.Turn.TheVariants as T
+use Rattle.stored.specs.Machine.{Turn as T, Turn}
 use Rattle.stored.specs.declared.writer.Writer.{Writer}
-use Rattle.stored.specs.declared.writer.WriteAnswer.{WriteAnswer}
-use Rattle.stored.specs.declared.writer.WriteAnswer.TheVariants as W
+use Rattle.stored.specs.Writing.{WriteAnswer as W, WriteAnswer}
 use Rattle.json_text.specs.Machinery.Pieces.{content_of}
 use Rattle.stored.proofs.Choosing.{never}
 use Rattle.records.specs.Networks as N
 use Rattle.records.specs.Networks.{network_of}
 use Rattle.records.specs.Machinery.Cursors.{wish_of}
 use Rattle.records.specs.declared.wishes.Wish.TheVariants as C
-use Rattle.policy.specs.declared.items.Asked.TheVariants as A
 use Rattle.records.specs.Wishes.{Wish, network_wish}
 use Rattle.records.specs.Wishes.Wish.{made}
 use Rattle.records.specs.Records.{unread_fault, wish_turn}
@@ -125,7 +114,7 @@ unread-refused s n size bs x e f = rw (sym e, f) (by (leb (length bs) 128) refl)
 
 -- a string whose first 129 bytes are copied: as a value
 pub value-asks : (s : State) (t bytes : List ℕ) (place from size : ℕ) → drop from t ≡ drop 1 (drop place t) → length bytes ≡ 129 → size ≤ 129
-    → take size bytes ≡ take 129 (content_of (drop from t)) → Asks s (wish_of t C.Value place) bytes (A.Item I.Value size)
+    → take size bytes ≡ take 129 (content_of (drop from t)) → Asks s (wish_of t C.Value place) bytes (Ok (I.Value, size))
 value-asks s t bytes place from size e l h same =
     let there : take size bytes ≡ take 129 (content_of (drop (place + 1) t)) =
     same ∙ ap (λ (r : List ℕ). take 129 (content_of r)) (e ∙ drop-drop 1 place t) in
@@ -133,7 +122,7 @@ value-asks s t bytes place from size e l h same =
 
 -- and as a network
 pub network-asks : (s : State) (t bytes : List ℕ) (place from a k : ℕ) → drop from t ≡ drop 1 (drop place t)
-    → N.Read.network a k ≡ network_of (content_of (drop from t)) → Asks s (wish_of t C.Network place) bytes (A.Item (I.Network a k) 0)
+    → N.Read.network a k ≡ network_of (content_of (drop from t)) → Asks s (wish_of t C.Network place) bytes (Ok (I.Network a k, 0))
 network-asks s t bytes place from a k e f =
     let content = content_of (drop (place + 1) t) in (
       omega arith,

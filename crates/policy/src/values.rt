@@ -2,26 +2,20 @@
 ghost use Rattle.std.specs.Prelude.{◌≡◌, ◌≤◌, length, take, drop};
 ghost use Rattle.json_text.specs.Machinery.Pieces.{content_of};
 
-use json_text::pieces::{Piece, advance, piece_at};
+use json_text::pieces::{advance, piece_at};
 
-// Copies the bytes of a string, as many as there is room for, and says how many these are.
+/// Copies the bytes of a string, as many as there is room for, and says how many these are.
 pub fn copy_string(text: &[u8], from: usize, bytes: &mut [u8]) -> usize
     ensures inside { result ≤ length bytes.old }
     ensures copied { take result bytes.new ≡ take (length bytes.old) (content_of (drop from text.now)) }
 {
     let mut at = from;
-    let mut i: usize = 0;
-    while i < bytes.len() {
-        match piece_at(text, at) {
-            Piece::Closed => {
-                return i;
-            }
-            Piece::Byte(byte, wide) => {
-                bytes[i] = byte;
-                at = advance(text, at, wide);
-                i += 1;
-            }
-        }
+    for (i, byte) in bytes.iter_mut().enumerate() {
+        let Some(piece) = piece_at(text, at) else {
+            return i;
+        };
+        *byte = piece.byte;
+        at = advance(text, at, piece.wide);
     }
-    i
+    bytes.len()
 }

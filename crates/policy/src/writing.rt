@@ -4,32 +4,21 @@ ghost use Rattle.policy.specs.Machinery.Runs.{poured_of};
 
 use crate::items::write_wish;
 use records::cursor::{first, next};
-use records::stages::Next;
-use stored::writer::{WriteAnswer, begin};
+use stored::writer::begin;
 
-// Writes records up to the first that is refused, and says how many bytes they took.
+/// Writes records up to the first that is refused, and says how many bytes they took.
 pub fn write_all(text: &[u8], table: &mut [u8]) -> usize
     ensures size { result ≡ (poured_of text.now table.old).size }
     ensures left { table.new ≡ (poured_of text.now table.old).left }
 {
     let mut writer = begin();
     let mut cursor = first();
-    loop {
-        match next(text, cursor) {
-            Next::Wish(wish, place, further) => {
-                match write_wish(text, writer, wish, place, table) {
-                    WriteAnswer::Added(after) => {
-                        writer = after;
-                        cursor = further;
-                    }
-                    WriteAnswer::Refused(_, _) => {
-                        return writer.at;
-                    }
-                }
-            }
-            Next::Done => {
-                return writer.at;
-            }
-        }
+    while let Some(wished) = next(text, cursor) {
+        let Ok(after) = write_wish(text, writer, wished.wish, wished.place, table) else {
+            return writer.at;
+        };
+        writer = after;
+        cursor = wished.cursor;
     }
+    writer.at
 }

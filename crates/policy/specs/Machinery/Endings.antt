@@ -1,17 +1,11 @@
 -- The answer and the buffer, as the reader finds them.
-use Rattle.std.specs.Prelude.{ℕ, ◌≡◌, List, ltb, length}
+use Rattle.std.specs.Prelude.{ℕ, ◌≡◌, List, Option, Some, None, ltb, length}
 use Rattle.json_text.specs.Choice.{pick}
 use Rattle.json_text.specs.Machinery.Reading.{fault_of}
-use Rattle.json_text.specs.declared.reader.Fault.{Fault}
-use Rattle.json_text.specs.declared.reader.Fault.TheVariants as F
 use Rattle.members.specs.Machinery.Levels.{members_of}
-use Rattle.members.specs.declared.checking.Checked.{Checked}
-use Rattle.members.specs.declared.checking.Checked.TheVariants as C
-use Rattle.policy.specs.Machinery.Runs.{dried_of, poured_of}
-use Rattle.policy.specs.declared.trying.Dried.{Dried}
-use Rattle.policy.specs.declared.trying.Dried.TheVariants as D
-use Rattle.policy.specs.declared.reader.JsonAnswer.{JsonAnswer}
-use Rattle.policy.specs.declared.reader.JsonAnswer.TheVariants as A
+use Rattle.members.specs.Answers.{Checked as C, Checked}
+use Rattle.policy.specs.Answers.{JsonAnswer as A, JsonAnswer}
+use Rattle.policy.specs.Machinery.Runs.{Dried as D, Dried, dried_of, poured_of}
 
 pub record Ending : Type 0 where
   pub answer : JsonAnswer
@@ -35,9 +29,9 @@ abbrev pub by_members : List ℕ → List ℕ → Checked → Ending
 by_members t buffer C.Sound = by_records t buffer (dried_of t)
 by_members t buffer (C.Refused k p) = refusing k p buffer
 
-abbrev pub by_fault : List ℕ → List ℕ → Fault → Ending
-by_fault t buffer F.Nothing = by_members t buffer (members_of t)
-by_fault t buffer (F.At p) = refusing 20 p buffer
+abbrev pub by_fault : List ℕ → List ℕ → Option ℕ → Ending
+by_fault t buffer None = by_members t buffer (members_of t)
+by_fault t buffer (Some p) = refusing 20 p buffer
 
 abbrev pub ending_of : List ℕ → List ℕ → Ending
 ending_of t buffer = by_fault t buffer (fault_of t)

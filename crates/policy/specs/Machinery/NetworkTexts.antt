@@ -1,81 +1,85 @@
 -- The reading of a network's text, one byte at a time.
-use Rattle.std.specs.Prelude.{ℕ, ◌+◌, ◌*◌, ◌-◌, ◌<◌, List, eqb, leb}
+use Rattle.std.specs.Prelude.{ℕ, ◌+◌, ◌*◌, ◌-◌, ◌<◌, List, Option, Some, None, eqb, leb}
 use Rattle.json_text.specs.Choice.{pick}
 use Rattle.json_text.specs.Bytes.{is_digit}
 use Rattle.records.specs.Networks as N
 use Rattle.records.specs.Networks.{length_of, numbers_of}
-use Rattle.policy.specs.declared.networks.NetworkText.{NetworkText}
-use Rattle.policy.specs.declared.networks.NetworkText.TheVariants as T
-use Rattle.policy.specs.declared.networks.Digit.{Digit}
-use Rattle.policy.specs.declared.networks.Digit.TheVariants as D
-use Rattle.policy.specs.declared.networks.Number.{Number}
-use Rattle.policy.specs.declared.networks.Number.TheVariants as M
-use Rattle.policy.specs.declared.networks.Longer.{Longer}
-use Rattle.policy.specs.declared.networks.Longer.TheVariants as L
+use Rattle.policy.specs.declared.networks.Network.{Network}
+use Rattle.policy.specs.declared.networks.Seen.{Seen}
 use Rattle.policy.specs.declared.networks.Part.{Part}
 use Rattle.policy.specs.declared.networks.Part.TheVariants as P
-use Rattle.policy.specs.declared.networks.Further.{Further}
-use Rattle.policy.specs.declared.networks.Further.TheVariants as F
 
-abbrev pub as_digit : ℕ → Digit
-as_digit b = pick (is_digit b) (D.Is (b - 0x30)) D.None
+abbrev pub as_digit : ℕ → Option ℕ
+as_digit b = pick (is_digit b) (Some (b - 0x30)) None
 
-abbrev pub longer_of : ℕ → ℕ → Number → Longer
-longer_of most d M.Blank = pick (leb d most) (L.Goes d) L.Fails
-longer_of most d (M.Value n) = pick (eqb n 0) L.Fails (pick (leb (n * 10 + d) most) (L.Goes (n * 10 + d)) L.Fails)
+abbrev pub longer_of : ℕ → ℕ → Option ℕ → Option ℕ
+longer_of most d None = pick (leb d most) (Some d) None
+longer_of most d (Some n) = pick (eqb n 0) None (pick (leb (n * 10 + d) most) (Some (n * 10 + d)) None)
 
-abbrev pub digit_step : Part → Longer → Further
-digit_step p (L.Goes n) = F.Goes p (M.Value n)
-digit_step p L.Fails = F.Fails
+abbrev pub seen : Part → Option ℕ → Option Seen
+seen p n = Some (record { part = p; number = n })
 
-abbrev pub dot_step : ℕ → ℕ → Number → Further
-dot_step k a M.Blank = F.Fails
-dot_step k a (M.Value n) = pick (eqb k 0) F.Fails (F.Goes (P.Dotted (k - 1) (a * 256 + n)) M.Blank)
+abbrev pub digit_step : Part → Option ℕ → Option Seen
+digit_step p (Some n) = seen p (Some n)
+digit_step p None = None
 
-abbrev pub slash_step : ℕ → ℕ → Number → Further
-slash_step k a M.Blank = F.Fails
-slash_step k a (M.Value n) = pick (eqb k 0) (F.Goes (P.Length (a * 256 + n)) M.Blank) F.Fails
+abbrev pub dot_step : ℕ → ℕ → Option ℕ → Option Seen
+dot_step k a None = None
+dot_step k a (Some n) = pick (eqb k 0) None (seen (P.Dotted (k - 1) (a * 256 + n)) None)
+
+abbrev pub slash_step : ℕ → ℕ → Option ℕ → Option Seen
+slash_step k a None = None
+slash_step k a (Some n) = pick (eqb k 0) (seen (P.Length (a * 256 + n)) None) None
 
 -- a digit of a number up to a greatest value, or else
-abbrev pub digit_or : Part → ℕ → Number → Further → Digit → Further
-digit_or p most n else (D.Is d) = digit_step p (longer_of most d n)
-digit_or p most n else D.None = else
+abbrev pub digit_or : Part → ℕ → Option ℕ → Option Seen → Option ℕ → Option Seen
+digit_or p most n else (Some d) = digit_step p (longer_of most d n)
+digit_or p most n else None = else
 
-abbrev pub dotted_step : ℕ → ℕ → Number → ℕ → Further
+abbrev pub dotted_step : ℕ → ℕ → Option ℕ → ℕ → Option Seen
 dotted_step k a n b =
-    digit_or (P.Dotted k a) 255 n (pick (eqb b 0x2E) (dot_step k a n) (pick (eqb b 0x2F) (slash_step k a n) F.Fails)) (as_digit b)
+    digit_or (P.Dotted k a) 255 n (pick (eqb b 0x2E) (dot_step k a n) (pick (eqb b 0x2F) (slash_step k a n) None)) (as_digit b)
 
-abbrev pub length_step : ℕ → Number → ℕ → Further
-length_step a n b = digit_or (P.Length a) 32 n F.Fails (as_digit b)
+abbrev pub length_step : ℕ → Option ℕ → ℕ → Option Seen
+length_step a n b = digit_or (P.Length a) 32 n None (as_digit b)
 
-abbrev pub part_step : Part → Number → ℕ → Further
+abbrev pub part_step : Part → Option ℕ → ℕ → Option Seen
 part_step (P.Dotted k a) n b = dotted_step k a n b
 part_step (P.Length a) n b = length_step a n b
 
-abbrev pub part_end : Part → Number → NetworkText
-part_end (P.Dotted k a) M.Blank = T.None
-part_end (P.Dotted k a) (M.Value n) = pick (eqb k 0) (T.Network (a * 256 + n) 32) T.None
-part_end (P.Length a) M.Blank = T.None
-part_end (P.Length a) (M.Value n) = T.Network a n
+abbrev pub step_of : Seen → ℕ → Option Seen
+step_of s b = part_step s.part s.number b
 
-abbrev pub read_of : NetworkText → N.Read
-read_of (T.Network a n) = N.Read.network a n
-read_of T.None = N.Read.none
+abbrev pub network : ℕ → ℕ → Option Network
+network a n = Some (record { address = a; prefix = n })
+
+abbrev pub part_end : Part → Option ℕ → Option Network
+part_end (P.Dotted k a) None = None
+part_end (P.Dotted k a) (Some n) = pick (eqb k 0) (network (a * 256 + n) 32) None
+part_end (P.Length a) None = None
+part_end (P.Length a) (Some n) = network a n
+
+abbrev pub end_of : Seen → Option Network
+end_of s = part_end s.part s.number
+
+abbrev pub read_of : Option Network → N.Read
+read_of (Some n) = N.Read.network n.address n.prefix
+read_of None = N.Read.none
 
 -- there is room for one byte more in the address
 abbrev pub RoomLeft : Part → Type 0
 RoomLeft (P.Dotted k a) = a < 0x1000000
 RoomLeft (P.Length a) = Unit {0}
 
-abbrev pub as_number : Number → N.Number
-as_number M.Blank = N.Number.blank
-as_number (M.Value n) = N.Number.value n
+abbrev pub as_number : Option ℕ → N.Number
+as_number None = N.Number.blank
+as_number (Some n) = N.Number.value n
 
 -- what the bytes left say, and what they say after a step
-abbrev pub read_by : Part → Number → List ℕ → N.Read
+abbrev pub read_by : Part → Option ℕ → List ℕ → N.Read
 read_by (P.Dotted k a) n bs = numbers_of bs k a (as_number n)
 read_by (P.Length a) n bs = length_of a bs (as_number n)
 
-abbrev pub read_after : List ℕ → Further → N.Read
-read_after bs (F.Goes p n) = read_by p n bs
-read_after bs F.Fails = N.Read.none
+abbrev pub read_after : List ℕ → Option Seen → N.Read
+read_after bs (Some s) = read_by s.part s.number bs
+read_after bs None = N.Read.none

@@ -1,22 +1,30 @@
 -- All wishes of a text: the dry run through the state machine, and the run that writes.
-use Rattle.std.specs.Prelude.{ℕ, ◌+◌, ◌-◌, List, [], ◌∷◌, ltb, length}
+use Rattle.std.specs.Prelude.{ℕ, ◌+◌, ◌-◌, List, [], ◌∷◌, ltb, length, Result, Ok, Err}
 use Rattle.std.proofs.lemmas.List.Edits.{sets}
 use Rattle.json_text.specs.Choice.{pick}
 use Rattle.json_text.specs.Machinery.Tokens.{tokens_of}
 use Rattle.stored.specs.Machine.{fresh_state}
-use Rattle.stored.specs.Writing.{fresh_writer}
+use Rattle.refusals.specs.declared.Refusal.{Refusal}
+use Rattle.refusals.specs.Numbers.{number_of}
+use Rattle.stored.specs.Writing.{WriteAnswer as W, WriteAnswer, fresh_writer}
 use Rattle.stored.specs.declared.machine.State.{State}
 use Rattle.stored.specs.declared.writer.Writer.{Writer}
-use Rattle.stored.specs.declared.writer.WriteAnswer.{WriteAnswer}
-use Rattle.stored.specs.declared.writer.WriteAnswer.TheVariants as W
 use Rattle.members.specs.Members.{Verdict}
 use Rattle.members.specs.Members.Verdict.{fine, refused}
 use Rattle.records.specs.Wishes.{Wish}
 use Rattle.records.specs.Records.{running, size_of}
 use Rattle.records.specs.Machinery.Streams.{document_from}
 use Rattle.policy.specs.Machinery.Asking.{wish_record, wish_writing}
-use Rattle.policy.specs.declared.trying.Dried.{Dried}
-use Rattle.policy.specs.declared.trying.Dried.TheVariants as D
+
+-- what a dry run answers: the bytes that the records would take, or the number of the first refusal and its place
+pub data Dried : Type 0 where
+  Fine : ℕ → Dried
+  Refused : ℕ → ℕ → Dried
+
+-- as the code says it
+abbrev pub as_dried : Result ℕ Refusal → Dried
+as_dried (Ok size) = Fine size
+as_dried (Err e) = Dried.Refused (number_of e.reason) e.place
 
 -- the wishes of a text
 unfoldable pub wishes_of : List ℕ → List Wish
@@ -28,8 +36,8 @@ capped n = pick (ltb 16384 n) 16385 n
 
 -- the answer of a dry run over a text of so many bytes, whose records take so many
 abbrev pub dried : ℕ → ℕ → Verdict → Dried
-dried size total fine = D.Fine (capped total)
-dried size total (refused k left) = D.Refused k (size - left)
+dried size total fine = Fine (capped total)
+dried size total (refused k left) = Dried.Refused k (size - left)
 
 -- from a state on, with so many bytes before
 unfoldable pub dried_from : List ℕ → List Wish → State → ℕ → Dried

@@ -1,6 +1,5 @@
 -- Each wish but a string is its item; a string is asked for by its bytes.
-use mathlib.Core.Path.{refl}
-use native.Mathlib.Omega.{arith}
+use Rattle.std.proofs.Common.{refl, arith}
 use Rattle.policy.proofs.Standing.{start-stands}
 use Rattle.policy.proofs.items.item_of.Goals as goal
 

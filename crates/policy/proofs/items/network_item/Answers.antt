@@ -1,26 +1,24 @@
 -- A string that is no network is refused by its length, of which its first 129 bytes say enough.
-use mathlib.Core.Path.{sym, ◌∙◌, ap}
-use Prim.Native.Nat.{ℕ}
-use native.Mathlib.Omega.{arith}
-use lib.ListN.{take, drop}
+use Rattle.std.proofs.Common.{sym, ◌∙◌, ap, ℕ, arith, take, drop}
 use Rattle.json_text.specs.Machinery.Pieces.{content_of}
-use Rattle.stored.specs.declared.machine.Turn.TheVariants as T
+use Rattle.stored.specs.Machine.{Turn as T}
 use Rattle.policy.specs.Machinery.NetworkTexts.{read_of}
 use Rattle.policy.proofs.Standing.{network-asks, network-refused}
 use Rattle.policy.proofs.items.network_item.Goals as goal
 
-pub returns-in-Network : goal.returns-in-Network
-returns-in-Network c =
+pub returns-in-Some : goal.returns-in-Some
+returns-in-Some c =
     let a = c.args in
-    network-asks a.state a.text.now a.bytes.now a.place c.advance-from.result c.in-Network.address c.in-Network.prefix
-    c.advance-from.ensures (ap read_of (sym c.in-Network.is) ∙ c.read_network.ensures)
+    let n = c.in-Some.network in
+    network-asks a.state a.text.now a.bytes.now a.place c.advance-from.result n.address n.prefix
+    c.advance-from.ensures (ap read_of (sym c.in-Some.is) ∙ c.read_network.ensures)
 
 pub returns-in-None : goal.returns-in-None
 returns-in-None c =
     let a = c.args in
     let from = c.advance-from.result in
-    network-refused a.state a.text.now c.copy_string-size.new.bytes a.place from c.copy_string-size.result c.advance-from.ensures
+    network-refused a.state a.text.now c.copy_string.new.bytes a.place from c.copy_string.result c.advance-from.ensures
     (ap read_of (sym c.in-None.is) ∙ c.read_network.ensures)
-    (c.copy_string-size.auto.bytes ∙ c.requires) (omega (arith, c.copy_string-size.ensures.inside, c.requires))
-    (c.copy_string-size.ensures.copied ∙ ap (λ (n : ℕ). take n (content_of (drop from a.text.now))) c.requires)
+    (c.copy_string.auto.bytes ∙ c.requires) (omega (arith, c.copy_string.ensures.inside, c.requires))
+    (c.copy_string.ensures.copied ∙ ap (λ (n : ℕ). take n (content_of (drop from a.text.now))) c.requires)
     ∙ ap T.Refused (sym c.unread.ensures)

@@ -1,60 +1,45 @@
-use Prim.{tt}
-use Prim.Native.Nat.{ℕ}
-use mathlib.Core.Path.{◌≡◌, refl, sym, ◌∙◌, ap}
-use mathlib.Core.List.{List}
-use native.Mathlib.Omega.{arith}
-use lib.ListN.{drop}
+-- `policy::networks::read_network` meets its contract: one byte more, a byte that fails, the end.
+use Rattle.std.proofs.Common.{◌≡◌, Some, refl, sym, ◌∙◌, ap, List, ℕ, drop, arith}
 use Rattle.json_text.specs.Machinery.Pieces.{content_of}
 use Rattle.records.specs.Networks.{network_of}
-use Rattle.policy.specs.Machinery.NetworkTexts.{part_step, read_of, read_by}
-use Rattle.policy.specs.declared.networks.Further.TheVariants as F
+use Rattle.policy.specs.Machinery.NetworkTexts.{step_of, read_of, read_by}
 use Rattle.policy.proofs.NetworkTexts.{has_room, step-sound, goes_on_lem, fails, closes, shorter}
 use Rattle.policy.proofs.networks.read_network.Goals as goal
 
-pub loop-byte-init : goal.loop-byte-init
+pub loop-piece-init : goal.loop-piece-init
 unfolding network_of
-loop-byte-init c = (record { room = omega arith; small = tt }, refl)
+loop-piece-init c = (record { room = omega arith; small = tt }, refl)
 
-pub part_end-requires : goal.part_end-requires
-part_end-requires c = has_room c.loop-byte.part c.loop-byte.invariant.0.room
+pub end-requires : goal.end-requires
+end-requires c = has_room c.loop-piece.seen.part c.loop-piece.invariant.0.room
 
-pub returns-in-Closed : goal.returns-in-Closed
-returns-in-Closed c =
-    let l = c.loop-byte in
-    let a = c.args in
-    ap read_of c.part_end.ensures
-    ∙ sym (closes (drop l.at a.text.now) l.part l.number (sym c.piece_at.ensures ∙ c.in-Closed.is))
-    ∙ l.invariant.1
+pub returns : goal.returns
+returns c =
+    let l = c.loop-piece in
+    ap read_of c.end.ensures ∙ sym (closes (drop l.at c.args.text.now) l.seen (sym c.piece_at.ensures ∙ c.in_default.is)) ∙ l.invariant.1
 
-pub part_step-requires : goal.part_step-requires
-part_step-requires c = has_room c.loop-byte.part c.loop-byte.invariant.0.room
+pub step-requires : goal.step-requires
+step-requires c = has_room c.loop-piece.seen.part c.loop-piece.invariant.0.room
 
-pub loop-byte-smaller : goal.loop-byte-smaller
-loop-byte-smaller c =
-    let l = c.loop-byte in
-    let a = c.args in
-    rw c.advance-at.ensures (shorter (drop l.at a.text.now) c.in-Byte.byte c.in-Byte.wide (sym c.piece_at.ensures ∙ c.in-Byte.is))
+pub loop-piece-smaller : goal.loop-piece-smaller
+loop-piece-smaller c =
+    rw c.advance-at.ensures (shorter (drop c.loop-piece.at c.args.text.now) c.in-Some.piece (sym c.piece_at.ensures ∙ c.in-Some.is))
 
-pub loop-byte-preserved : goal.loop-byte-preserved
-loop-byte-preserved c =
-    let l = c.loop-byte in
-    let a = c.args in
-    let b = c.in-Byte.byte in
-    let wide = c.in-Byte.wide in
-    let q = c.in-Goes.next in
-    let m = c.in-Goes.more in
-    let p = sym c.piece_at.ensures ∙ c.in-Byte.is in
-    let f : part_step l.part l.number b ≡ F.Goes q m = sym c.part_step.ensures ∙ c.in-Goes.is in (
-      rw f at (step-sound l.part l.number b l.invariant.0),
-      ap (λ (s : List ℕ). read_by q m (content_of s)) c.advance-at.ensures
-          ∙ sym (goes_on_lem (drop l.at a.text.now) l.part q l.number m b wide p f)
+pub loop-piece-preserved : goal.loop-piece-preserved
+loop-piece-preserved c =
+    let l = c.loop-piece in
+    let b = c.in-Some.piece in
+    let next = c.in_ok-seen.seen in
+    let f : step_of l.seen b.byte ≡ Some next = sym c.step.ensures ∙ c.in_ok-seen.was in (
+      rw f at (step-sound l.seen.part l.seen.number b.byte l.invariant.0),
+      ap (λ (s : List ℕ). read_by next.part next.number (content_of s)) c.advance-at.ensures
+          ∙ sym (goes_on_lem (drop l.at c.args.text.now) l.seen b next (sym c.piece_at.ensures ∙ c.in-Some.is) f)
           ∙ l.invariant.1,
     )
 
-pub returns-in-Fails : goal.returns-in-Fails
-returns-in-Fails c =
-    let l = c.loop-byte in
-    let a = c.args in
-    sym (fails (drop l.at a.text.now) l.part l.number c.in-Byte.byte c.in-Byte.wide
-    (sym c.piece_at.ensures ∙ c.in-Byte.is) (sym c.part_step.ensures ∙ c.in-Fails.is))
+pub returns-in_err-seen : goal.returns-in_err-seen
+returns-in_err-seen c =
+    let l = c.loop-piece in
+    ap read_of c.from_residual.ensures
+    ∙ sym (fails (drop l.at c.args.text.now) l.seen c.in-Some.piece (sym c.piece_at.ensures ∙ c.in-Some.is) (sym c.step.ensures ∙ c.in_err-seen.was))
     ∙ l.invariant.1
