@@ -1,11 +1,6 @@
 -- Laying down, a byte, a sign or a word at a time: what is left to lay down from a place on is the next and what is left behind it.
-use Prim.Native.Nat.{ℕ, zero, suc, ◌+◌, ◌-◌, ◌<◌, ◌≤◌}
-use mathlib.Core.Path.{◌≡◌, refl, sym, ◌∙◌, ap, ap₂}
-use mathlib.Core.Bool.{true, false}
-use mathlib.Core.List.{List}
-use native.Mathlib.Omega.{arith}
-use lib.ListN.{length, get_or, take, drop, set}
-use borrow.Author.Tests.{le-leb, lt-leb, lt-ltb, le-ltb}
+use Rattle.std.proofs.Common.{ℕ, zero, suc, ◌+◌, ◌-◌, ◌<◌, ◌≤◌, ◌≡◌, refl, sym, ◌∙◌, ap, ap₂, true, false, List, arith, length, get_or, take, drop, set, le-leb, lt-ltb, le-ltb}
+use Rattle.std.proofs.lemmas.Bool.{lt-leb}
 use Rattle.cases.specs.Text.{is_blank}
 use Rattle.cases.specs.Laying.{Laid, unlaid, byte_laid, sign_behind, sign_laid, behind, signs_laid, text_laid, kind_between, value_laid, word_laid, word_behind, words_from}
 

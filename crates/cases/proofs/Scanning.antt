@@ -1,18 +1,23 @@
--- How many bytes there are up to the first that is wanted, from an index on: by the byte at the index, and at the end.
-use Prim.Native.Nat.{ℕ, ◌+◌, ◌<◌, ◌≤◌}
-use mathlib.Core.Path.{◌≡◌}
-use mathlib.Core.Bool.{true, false}
-use mathlib.Core.List.{List}
-use lib.Dec.{eqb}
-use lib.ListN.{length, get_or, drop}
-use Rattle.stored.proofs.Lists.{left, none_left}
+-- How many bytes there are up to the first that is wanted: what a search for it says, and one byte more where it is there.
+use Rattle.std.proofs.Common.{◌≡◌, ◌≢◌, ℕ, ◌+◌, ◌<◌, ◌≤◌, min, Bool, true, false, List, [], ◌∷◌, Option, MatchOption, HoldsAt, unwrap_or, eqb, length, refl, sym, ap, ◌∙◌, arith, rules}
+use Rattle.std.proofs.lemmas.Bool.{eq-eqb, ne_eqb}
+use Rattle.std.specs.List.{AllWithin}
+use Rattle.std.proofs.lemmas.Iterator.{index_from_first}
 use Rattle.cases.specs.Text.{up_to}
 
-pub stops : (own wanted : ℕ) (text : List ℕ) (at : ℕ) → at < length text → eqb (get_or text at 0) wanted ≡ true → up_to own wanted (drop at text) ≡ own
-stops own wanted text at h e = rw (left text at 0 h, e)
+pub first : (wanted : ℕ) (text : List ℕ) (found : Option ℕ)
+    → MatchOption found (AllWithin (λ b. b ≢ wanted) text 0 (length text))
+    (λ i. (i < length text) × HoldsAt (λ b. b ≡ wanted) text i × AllWithin (λ b. b ≢ wanted) text 0 i)
+    → up_to 0 wanted text ≡ unwrap_or found (length text)
+first wanted text found =
+    index_from_first (up_to 0 wanted) (λ b. b ≡ wanted) (λ b. b ≢ wanted) refl
+    (λ b bs e. rw (eq-eqb b wanted e)) (λ b bs e. rw (ne_eqb b wanted e)) text found
 
-pub goes_on_lem : (own wanted : ℕ) (text : List ℕ) (at : ℕ) → at < length text → eqb (get_or text at 0) wanted ≡ false → up_to own wanted (drop at text) ≡ up_to own wanted (drop (at + 1) text) + 1
-goes_on_lem own wanted text at h e = rw (left text at 0 h, e)
-
-pub ends : (own wanted : ℕ) (text : List ℕ) (at : ℕ) → length text ≤ at → up_to own wanted (drop at text) ≡ 0
-ends own wanted text at h = rw (none_left text at h)
+pub one_behind : (wanted : ℕ) (text : List ℕ) → up_to 1 wanted text ≡ min (up_to 0 wanted text + 1) (length text)
+one_behind wanted [] = omega arith
+one_behind wanted (b ∷ bs) = by (eqb b wanted) refl (one_behind wanted bs)
+  where
+    by : (here : Bool) → eqb b wanted ≡ here → up_to 1 wanted bs ≡ min (up_to 0 wanted bs + 1) (length bs)
+        → up_to 1 wanted (b ∷ bs) ≡ min (up_to 0 wanted (b ∷ bs) + 1) (length (b ∷ bs))
+    by true e more = rw e (omega arith)
+    by false e more = rw e (omega arith)

@@ -4,84 +4,64 @@ ghost use Rattle.std.specs.Prelude.{◌≡◌, ◌≤◌, ◌<◌, length, drop}
 ghost use Rattle.cases.specs.Text.{is_digit, digit_of};
 ghost use Rattle.cases.specs.Laying.{is_hex_digit, with_digit, number_of, times_of, byte_laid, hex_laid, sign_behind, sign_laid, text_laid, value_laid, word_laid, words_laid};
 
-use crate::text::{behind_next, is_blank, part_of};
+use crate::text::{behind_next, is_blank};
 use stored::records::byte_at;
 
 pub fn is_digit(byte: u8) -> bool
     ensures { result ≡ is_digit byte }
 {
-    if byte < b'0' {
-        return false;
-    }
-    byte <= b'9'
+    matches!(byte, b'0'..=b'9')
 }
 
 fn is_hex_digit(byte: u8) -> bool
     ensures { result ≡ is_hex_digit byte }
 {
-    if is_digit(byte) {
-        return true;
-    }
-    if byte < b'A' {
-        return false;
-    }
-    byte <= b'F'
+    matches!(byte, b'0'..=b'9' | b'A'..=b'F')
 }
 
-// What a hex digit stands for.
+/// What a hex digit stands for, 0 for every other byte.
 pub fn digit_of(byte: u8) -> u8
     ensures upper_bound { result < 16 }
     ensures value { result ≡ digit_of byte }
 {
-    if byte < b'0' {
-        return 0;
+    match byte {
+        b'0'..=b'9' => byte - b'0',
+        b'A'..=b'F' => byte - b'A' + 10,
+        _ => 0,
     }
-    if byte <= b'9' {
-        return byte - b'0';
-    }
-    if byte < b'A' {
-        return 0;
-    }
-    if byte <= b'F' {
-        return byte - b'A' + 10;
-    }
-    0
 }
 
 // The number with one digit more, unless it has five already; a byte that is no digit is passed over.
 fn with_digit(number: usize, byte: u8) -> usize
     ensures { result ≡ with_digit number byte }
 {
-    if number < 10000 {
-        if is_digit(byte) {
-            return number * 10 + digit_of(byte) as usize;
-        }
-        return number;
+    if number < 10000 && is_digit(byte) {
+        number * 10 + usize::from(digit_of(byte))
+    } else {
+        number
     }
-    number
 }
 
-// The decimal number at a place, of five digits at most: those behind are passed over.
-fn number_at(word: &[u8], from: usize) -> usize
-    ensures { result ≡ number_of (drop from word.now) 0 }
+// The decimal number that a word is, of five digits at most: those behind are passed over.
+fn number_of(word: &[u8]) -> usize
+    ensures { result ≡ number_of word.now 0 }
 {
     let mut number: usize = 0;
-    let mut at: usize = from;
-    while at < word.len() {
-        number = with_digit(number, word[at]);
-        at += 1;
+    for &byte in word {
+        number = with_digit(number, byte);
     }
     number
 }
 
 // How often a word's byte is meant: `61*128` is 128 times, `61` is once.
+#[tactic(auto, unfolding(crate::specs::Laying::times_of))]
 fn times_of(word: &[u8]) -> usize
     ensures { result ≡ times_of word.now }
 {
-    if byte_at(word, 2) == b'*' {
-        return number_at(word, 3);
+    match word {
+        [_, _, b'*', number @ ..] => number_of(number),
+        _ => 1,
     }
-    1
 }
 
 // Lays a byte down some times from a place on, as far as there is room, and gives the place behind.
@@ -90,59 +70,56 @@ fn lay_byte(room: &mut [u8], from: usize, byte: u8, times: usize) -> usize
     ensures next { result ≡ (byte_laid times byte room.old from).to }
     ensures laid { room.new ≡ (byte_laid times byte room.old from).room }
 {
-    let mut at: usize = from;
-    let mut left: usize = times;
-    while 0 < left {
-        if room.len() <= at {
-            return at;
-        }
+    let end = from + times.min(room.len().saturating_sub(from));
+    for at in from..end {
         room[at] = byte;
-        at += 1;
-        left -= 1;
     }
-    at
+    end
 }
 
 // Lays down what a word in hex stands for, and gives the place behind.
+#[tactic(auto, unfolding(crate::specs::Laying::hex_laid))]
 fn lay_hex(word: &[u8], room: &mut [u8], from: usize) -> usize
     ensures on { from ≤ result }
     ensures next { result ≡ (hex_laid word.now room.old from).to }
     ensures laid { room.new ≡ (hex_laid word.now room.old from).room }
 {
     let high = byte_at(word, 0);
-    if is_hex_digit(high) {
-        let byte = digit_of(high) * 16 + digit_of(byte_at(word, 1));
-        return lay_byte(room, from, byte, times_of(word));
+    if !is_hex_digit(high) {
+        return from;
     }
-    from
+    let byte = digit_of(high) * 16 + digit_of(byte_at(word, 1));
+    lay_byte(room, from, byte, times_of(word))
 }
 
 // The place behind what stands at a place of a text: one byte, or all up to the closing brace.
+#[tactic(auto, unfolding(crate::specs::Laying::sign_behind))]
 fn behind_sign(text: &[u8], at: usize) -> usize
     requires { at < length text.now }
     ensures lower_bound { (at < result) × (result ≤ length text.now) }
     ensures value { result ≡ sign_behind text.now at }
 {
     if text[at] == b'{' {
-        return behind_next(text, at, b'}');
+        behind_next(text, at, b'}')
+    } else {
+        at + 1
     }
-    at + 1
 }
 
 // Lays down one byte, or what stands between braces.
+#[tactic(auto, unfolding(crate::specs::Laying::sign_laid))]
 fn lay_sign(sign: &[u8], room: &mut [u8], from: usize) -> usize
     ensures on { from ≤ result }
     ensures next { result ≡ (sign_laid sign.now room.old from).to }
     ensures laid { room.new ≡ (sign_laid sign.now room.old from).room }
 {
-    let first = byte_at(sign, 0);
-    if first == b'{' {
-        return lay_hex(part_of(sign, 1, sign.len()), room, from);
+    match sign {
+        [b'{', word @ ..] => lay_hex(word, room, from),
+        _ => lay_byte(room, from, byte_at(sign, 0), 1),
     }
-    lay_byte(room, from, first, 1)
 }
 
-// Lays a text down up to its first blank, and gives the place behind.
+/// Lays a text down up to its first blank, and gives the place behind.
 pub fn lay_text(text: &[u8], room: &mut [u8], from: usize) -> usize
     ensures on { from ≤ result }
     ensures next { result ≡ (text_laid text.now room.old from).to }
@@ -176,17 +153,18 @@ fn lay_value(text: &[u8], room: &mut [u8], from: usize) -> usize
 }
 
 // Lays down what one word stands for, and gives the place behind.
+#[tactic(auto, unfolding(crate::specs::Laying::word_laid))]
 fn lay_word(word: &[u8], room: &mut [u8], from: usize) -> usize
     ensures next { result ≡ (word_laid word.now room.old from).to }
     ensures laid { room.new ≡ (word_laid word.now room.old from).room }
 {
-    if byte_at(word, 0) == b'=' {
-        return lay_value(part_of(word, 1, word.len()), room, from);
+    match word {
+        [b'=', text @ ..] => lay_value(text, room, from),
+        _ => lay_hex(word, room, from),
     }
-    lay_hex(word, room, from)
 }
 
-// Lays the bytes that the words stand for into the room, and gives their number.
+/// Lays the bytes that the words stand for into the room, and gives their number.
 pub fn lay_words(words: &[u8], room: &mut [u8]) -> usize
     ensures next { result ≡ (words_laid words.now room.old).to }
     ensures laid { room.new ≡ (words_laid words.now room.old).room }

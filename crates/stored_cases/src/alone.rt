@@ -2,35 +2,28 @@
 // table's limit. The buffer holds one filling byte before each, and what of it has changed is printed.
 use cases::print::print_refusal;
 use cases::text::first_bytes;
+use refusals::Refusal;
 use stored::items::{Column, Effect, Item, Key, Operator};
 use stored::limits::MOST_BYTES;
-use stored::writer::{WriteAnswer, Writer, begin, write};
+use stored::writer::{Writer, begin, write};
 
 // Stands in no record of these cases.
 const FILLING: u8 = 0xEE;
 
 // The first place that has changed, or the end.
 fn first_changed(buffer: &[u8]) -> usize {
-    let mut at: usize = 0;
-    while at < buffer.len() {
-        if buffer[at] != FILLING {
-            return at;
-        }
-        at += 1;
-    }
-    at
+    buffer
+        .iter()
+        .position(|byte| *byte != FILLING)
+        .unwrap_or(buffer.len())
 }
 
 // The place behind the last that has changed, or 0.
 fn behind_changed(buffer: &[u8]) -> usize {
-    let mut at: usize = buffer.len();
-    while 0 < at {
-        if buffer[at - 1] != FILLING {
-            return at;
-        }
-        at -= 1;
+    match buffer.iter().rposition(|byte| *byte != FILLING) {
+        Some(last) => last + 1,
+        None => 0,
     }
-    0
 }
 
 fn print_buffer(buffer: &[u8]) {
@@ -47,25 +40,29 @@ fn print_buffer(buffer: &[u8]) {
     io::write_all(1, b"\n");
 }
 
-fn print_answer(answer: WriteAnswer) {
+fn print_answer(answer: Result<Writer, Refusal>) {
     match answer {
-        WriteAnswer::Added(next) => {
+        Ok(next) => {
             io::write_all(1, b" added, next at ");
             io::print_decimal(1, next.at as u64);
         }
-        WriteAnswer::Refused(number, place) => {
+        Err(refusal) => {
             io::write_all(1, b" refused");
-            print_refusal(number, place);
+            print_refusal(refusal);
         }
     }
 }
 
 // Gives one item to a writer, with the first bytes of the room as its buffer.
-fn write_in(writer: Writer, item: Item, value: &[u8], size: usize, room: &mut [u8]) -> WriteAnswer {
-    if size <= room.len() {
-        return write(writer, item, value, &mut room[..size]);
-    }
-    write(writer, item, value, room)
+fn write_in(
+    writer: Writer,
+    item: Item,
+    value: &[u8],
+    size: usize,
+    room: &mut [u8],
+) -> Result<Writer, Refusal> {
+    let size = size.min(room.len());
+    write(writer, item, value, &mut room[..size])
 }
 
 // Gives one item to a writer with a buffer of some size, and prints what came of it.
@@ -103,10 +100,7 @@ fn run_network(name: &[u8], writer: Writer) {
 fn after(writer: Writer, item: Item) -> Writer {
     let value = [b'a'];
     let mut buffer = [0u8; 32];
-    match write(writer, item, &value, &mut buffer) {
-        WriteAnswer::Added(next) => next,
-        WriteAnswer::Refused(_, _) => writer,
-    }
+    write(writer, item, &value, &mut buffer).unwrap_or(writer)
 }
 
 // A list of principals is open.
@@ -139,11 +133,7 @@ fn at_networks() -> Writer {
 
 // The same writer at another place.
 fn moved(writer: Writer, at: usize) -> Writer {
-    let state = writer.state;
-    Writer {
-        state: state,
-        at: at,
-    }
+    Writer { at, ..writer }
 }
 
 // Values of no bytes and over 128: 6 in its turn, after 4 and before 7, 8, 1 and 14.

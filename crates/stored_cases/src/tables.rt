@@ -2,19 +2,19 @@
 use crate::walk::{Walked, is_same, write_records};
 use cases::laying::lay_words;
 use cases::print::{print_number, print_refusal};
-use cases::text::{behind_next, first_bytes, place_of};
-use stored::reader::{ReadAnswer, read};
-use stored::records::byte_at;
+use cases::text::{first_bytes, split_once};
+use refusals::Refusal;
+use stored::reader::read;
 
-fn print_read(answer: ReadAnswer) {
+fn print_read(answer: Result<u8, Refusal>) {
     match answer {
-        ReadAnswer::Accepted(rows) => {
+        Ok(rows) => {
             io::write_all(1, b" accepted");
-            print_number(rows as usize);
+            print_number(usize::from(rows));
         }
-        ReadAnswer::Refused(number, place) => {
+        Err(refusal) => {
             io::write_all(1, b" refused");
-            print_refusal(number, place);
+            print_refusal(refusal);
         }
     }
 }
@@ -29,14 +29,14 @@ fn print_written(table: &[u8], buffer: &[u8], size: usize) {
     }
 }
 
-fn print_walked(table: &[u8], buffer: &[u8], walked: Walked) {
+fn print_walked(table: &[u8], buffer: &[u8], walked: Result<Walked, Refusal>) {
     match walked {
-        Walked::Written(size) => print_written(table, buffer, size),
-        Walked::Refused(number, place) => {
+        Ok(Walked::Written(size)) => print_written(table, buffer, size),
+        Err(refusal) => {
             io::write_all(1, b"; writer refused");
-            print_refusal(number, place);
+            print_refusal(refusal);
         }
-        Walked::Stopped(place) => {
+        Ok(Walked::Stopped(place)) => {
             io::write_all(1, b"; stopped at");
             print_number(place);
         }
@@ -52,24 +52,19 @@ fn run_table(table: &[u8], buffer: &mut [u8]) {
 
 // `NAME: BYTES`; a line without a colon, or with `#` in front, is no case.
 fn run_line(line: &[u8], table: &mut [u8], buffer: &mut [u8]) {
-    if byte_at(line, 0) == b'#' {
+    if line.starts_with(b"#") {
         return;
     }
-    let colon = place_of(line, b':');
-    if colon < line.len() {
-        io::write_all(1, first_bytes(line, colon));
-        let from = colon + 1;
-        let size = lay_words(&line[from..], table);
+    if let Some((name, words)) = split_once(line, b':') {
+        io::write_all(1, name);
+        let size = lay_words(words, table);
         run_table(first_bytes(table, size), buffer);
     }
 }
 
 // Runs the cases of a text, one line after the other.
 pub(crate) fn run_cases(text: &[u8], table: &mut [u8], buffer: &mut [u8]) {
-    let mut at: usize = 0;
-    while at < text.len() {
-        let end = behind_next(text, at, b'\n');
-        run_line(&text[at..end], table, buffer);
-        at = end;
+    for line in text.split_inclusive(|byte| *byte == b'\n') {
+        run_line(line, table, buffer);
     }
 }

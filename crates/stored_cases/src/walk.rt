@@ -1,57 +1,32 @@
 // What the writer says of the records of a table, given to it one after the other.
-use stored::records::{Record, byte_at, record_at};
-use stored::writer::{WriteAnswer, begin, write};
+use cases::text::first_bytes;
+use refusals::Refusal;
+use stored::entries::entries_of;
+use stored::writer::{begin, write};
 
 #[derive(Clone, Copy)]
 pub enum Walked {
     // All records were written, so many bytes.
     Written(usize),
-    // The writer's refusal: its number and its place.
-    Refused(u8, usize),
     // A cut or strange record stands here.
     Stopped(usize),
 }
 
-// Gives the records of a table to a fresh writer.
-pub(crate) fn write_records(table: &[u8], buffer: &mut [u8]) -> Walked {
+// Gives the records of a table to a fresh writer. It writes each record as long as it was read, so that it is as far in its buffer as the
+// walk in the table.
+pub(crate) fn write_records(table: &[u8], buffer: &mut [u8]) -> Result<Walked, Refusal> {
     let mut writer = begin();
-    let mut at: usize = 0;
-    while at < table.len() {
-        match record_at(table, at) {
-            Record::Is(item, start, length) => {
-                let end = start + length;
-                match write(writer, item, &table[start..end], buffer) {
-                    WriteAnswer::Added(next) => {
-                        writer = next;
-                        at = end;
-                    }
-                    WriteAnswer::Refused(number, place) => {
-                        return Walked::Refused(number, place);
-                    }
-                }
-            }
-            Record::Cut => {
-                return Walked::Stopped(at);
-            }
-            Record::Strange => {
-                return Walked::Stopped(at);
-            }
-        }
+    for entry in entries_of(table) {
+        writer = write(writer, entry.item, entry.bytes, buffer)?;
     }
-    Walked::Written(writer.at)
+    if writer.at < table.len() {
+        Ok(Walked::Stopped(writer.at))
+    } else {
+        Ok(Walked::Written(writer.at))
+    }
 }
 
 // The first so many bytes of the buffer are the table's, all of them.
 pub(crate) fn is_same(table: &[u8], buffer: &[u8], size: usize) -> bool {
-    if size == table.len() {
-        let mut at: usize = 0;
-        while at < table.len() {
-            if table[at] != byte_at(buffer, at) {
-                return false;
-            }
-            at += 1;
-        }
-        return true;
-    }
-    false
+    size == table.len() && first_bytes(buffer, size) == table
 }

@@ -1,7 +1,5 @@
 -- The signs left lay down, from the room and the place at hand, what was to be laid down: that is the invariant.
-use Prim.Native.Nat.{ℕ, ◌-◌, ◌≤◌}
-use mathlib.Core.Path.{◌≡◌}
-use lib.ListN.{length}
+use Rattle.std.proofs.Common.{ℕ, ◌-◌, ◌≤◌, ◌≡◌, length}
 use Rattle.cases.specs.Laying.{signs_laid}
 use Rattle.cases.proofs.laying.lay_text.Given as goal
 

@@ -1,5 +1,5 @@
 -- Each step goes on from the room and the place that the one before left.
-use native.Mathlib.Omega.{arith}
+use Rattle.std.proofs.Common.{arith}
 use Rattle.cases.proofs.OneByOne.{value-laid}
 use Rattle.cases.proofs.laying.lay_value.Goals as goal
 

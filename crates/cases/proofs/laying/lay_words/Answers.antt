@@ -1,8 +1,4 @@
-use Prim.Native.Nat.{◌-◌}
-use mathlib.Core.Path.{refl, sym, ap, ◌∙◌}
-use native.Mathlib.Omega.{arith}
-use lib.ListN.{length}
-use borrow.Author.Rules.{rules}
+use Rattle.std.proofs.Common.{◌-◌, refl, sym, ap, ◌∙◌, arith, length, rules}
 use Rattle.cases.specs.Laying.{Laid, words_laid}
 use Rattle.cases.proofs.OneByOne.{no_words, word_on}
 use Rattle.cases.proofs.laying.lay_words.Goals as goal

@@ -1,12 +1,7 @@
 -- All bytes before the index stand in the text, so those from it on decide: that is the invariant.
-use Prim.Native.Nat.{◌-◌, ◌≤◌}
-use mathlib.Core.Path.{◌≡◌}
-use lib.ListN.{length, drop}
+use Rattle.std.proofs.Common.{◌≡◌, drop}
 use Rattle.cases.specs.Text.{stand_at}
 use Rattle.cases.proofs.text.begins_with.Given as goal
 
 abbrev pub invariant-loop-at : goal.invariant-loop-at
-invariant-loop-at l = (l.at ≤ length l.bytes) × (stand_at l.text l.at (drop l.at l.bytes) ≡ stand_at l.text 0 l.bytes)
-
-abbrev pub decreases-loop-at : goal.decreases-loop-at
-decreases-loop-at l = length l.bytes - l.at
+invariant-loop-at l = stand_at l.text l.at (drop l.at l.bytes) ≡ stand_at l.text 0 l.bytes
