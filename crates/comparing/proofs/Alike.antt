@@ -10,8 +10,7 @@ use Rattle.stored.specs.Choice.{pick}
 use Rattle.stored.specs.Tables.{Statement}
 use Rattle.judging.specs.Requests.{Value, columns}
 use Rattle.judging.specs.Meaning.{holds, applies, is_allow, is_allowed, some_allows, some_denies}
-use Rattle.judging.specs.Judging.{verdict}
-use Rattle.judging.specs.declared.judge.Judgement.TheVariants as J
+use Rattle.judging.specs.Judging.{verdict, Judgement as J}
 use Rattle.judging.proofs.ByColumn.{by-column}
 use Rattle.comparing.specs.Order.{In}
 use Rattle.comparing.specs.Requests.{Each}

@@ -8,13 +8,11 @@ use mathlib.Core.List.{List, [], ◌∷◌}
 use mathlib.Core.Logic.{◌↔◌}
 use native.Mathlib.Omega.{arith}
 use lib.ListN.{length, get_or}
-use Rattle.stored.specs.Reading.{reading}
+use Rattle.stored.specs.Reading.{reading, ReadAnswer as A}
 use Rattle.stored.specs.Tables.{Statement}
-use Rattle.stored.specs.declared.reader.ReadAnswer.TheVariants as A
 use Rattle.judging.specs.Requests.{Value}
 use Rattle.judging.specs.Meaning.{is_allowed}
-use Rattle.judging.specs.Judging.{rows_of, judgement}
-use Rattle.judging.specs.declared.judge.Judgement.TheVariants as J
+use Rattle.judging.specs.Judging.{rows_of, judgement, Judgement as J}
 use Rattle.comparing.specs.Order.{Earlier, In}
 use Rattle.comparing.specs.Requests.{Each, IsRequest}
 use Rattle.comparing.specs.Gaps.{AlikeFrom, FirstOf, Gap, Gaps, Counted, IsGap}

@@ -11,13 +11,10 @@ use lib.ListN.{length}
 use borrow.Author.Tests.{ne_eqb}
 use Rattle.stored.specs.Choice.{pick}
 use Rattle.stored.specs.Values.{in_range}
-use Rattle.stored.specs.Reading.{reading}
-use Rattle.stored.specs.declared.reader.ReadAnswer.{ReadAnswer}
-use Rattle.stored.specs.declared.reader.ReadAnswer.TheVariants as A
+use Rattle.stored.specs.Reading.{reading, ReadAnswer, ReadAnswer as A}
 use Rattle.judging.specs.Requests.{Value, absent, text, number, columns, is_faulty, first_fault}
 use Rattle.judging.specs.Meaning.{is_allowed}
-use Rattle.judging.specs.Judging.{rows_of, verdict, judged_as, judgement}
-use Rattle.judging.specs.declared.judge.Judgement.TheVariants as J
+use Rattle.judging.specs.Judging.{rows_of, verdict, judged_as, judgement, Judgement as J}
 use Rattle.judging.proofs.Promises.{allowed-exactly}
 use Rattle.judging.proofs.Refusing.{request-sound}
 use Rattle.comparing.specs.Requests.{AdmitsNeeded, AdmitsOptional, AdmitsAddress, Admitted, Each, IsRequest}

@@ -10,6 +10,7 @@ pub mod Deciding
 pub mod SameBehind
 pub mod Pigeonhole
 pub mod OneAnswer
+pub mod Refusing
 pub mod GapList
 pub mod Outcomes
 pub mod Means

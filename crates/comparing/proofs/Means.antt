@@ -13,8 +13,7 @@ use borrow.Author.Tests.{ltb-true, ltb-false}
 use Rattle.stored.proofs.Choosing.{never}
 use Rattle.judging.specs.Requests.{Value, columns, column_of}
 use Rattle.judging.specs.Meaning.{is_allowed}
-use Rattle.judging.specs.Judging.{rows_of, judgement}
-use Rattle.judging.specs.declared.judge.Judgement.TheVariants as J
+use Rattle.judging.specs.Judging.{rows_of, judgement, Judgement as J}
 use Rattle.comparing.specs.Order.{In}
 use Rattle.comparing.specs.Requests.{Admitted, IsRequest}
 use Rattle.comparing.specs.Gaps.{FirstOf, Counted, IsGap}

@@ -10,10 +10,8 @@ use lib.Dec.{ltb, leb}
 use lib.ListN.{length, drop}
 use borrow.Author.Tests.{leb-true, leb-false}
 use Rattle.stored.specs.Choice.{pick}
-use Rattle.stored.specs.Reading.{reading}
+use Rattle.stored.specs.Reading.{reading, ReadAnswer, ReadAnswer as A}
 use Rattle.stored.specs.Tables.{Statement}
-use Rattle.stored.specs.declared.reader.ReadAnswer.{ReadAnswer}
-use Rattle.stored.specs.declared.reader.ReadAnswer.TheVariants as A
 use Rattle.matching.specs.declared.reading.Reading.{Reading}
 use Rattle.matching.specs.State.{state_of}
 use Rattle.judging.specs.Requests.{Value, columns}

@@ -10,10 +10,8 @@ use lib.Dec.{ltb, eqb}
 use lib.ListN.{length, drop}
 use borrow.Author.Tests.{ltb-true, ltb-false, lt-ltb, le-ltb}
 use Rattle.stored.specs.Choice.{pick}
-use Rattle.stored.specs.Reading.{reading}
+use Rattle.stored.specs.Reading.{reading, ReadAnswer, ReadAnswer as A}
 use Rattle.stored.specs.Tables.{Statement}
-use Rattle.stored.specs.declared.reader.ReadAnswer.{ReadAnswer}
-use Rattle.stored.specs.declared.reader.ReadAnswer.TheVariants as A
 use Rattle.stored.proofs.Choosing.{never}
 use Rattle.judging.specs.Requests.{Value, columns}
 use Rattle.judging.specs.Judging.{rows_of}

@@ -8,14 +8,12 @@ use mathlib.Core.List.{List, [], ◌++◌}
 use mathlib.Core.Logic.{◌↔◌}
 use lib.Dec.{ltb}
 use lib.ListN.{length, get_or}
-use Rattle.stored.specs.Reading.{reading}
+use Rattle.stored.specs.Reading.{reading, ReadAnswer as A}
 use Rattle.stored.specs.Tables.{Statement}
-use Rattle.stored.specs.declared.reader.ReadAnswer.TheVariants as A
 use Rattle.matching.specs.State.{state_of}
 use Rattle.judging.specs.Requests.{Value, text}
 use Rattle.judging.specs.Meaning.{is_allowed}
-use Rattle.judging.specs.Judging.{rows_of, judgement}
-use Rattle.judging.specs.declared.judge.Judgement.TheVariants as J
+use Rattle.judging.specs.Judging.{rows_of, judgement, Judgement as J}
 use Rattle.columns.specs.Values.{values_in}
 use Rattle.comparing.specs.Order.{Earlier, In}
 use Rattle.comparing.specs.Requests.{IsRequest}

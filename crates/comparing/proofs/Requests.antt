@@ -16,9 +16,8 @@ use Rattle.stored.specs.Reading.{reading, step_at}
 use Rattle.stored.specs.Entries.{Bytes}
 use Rattle.stored.proofs.Choosing.{never, both_left, both_right}
 use Rattle.judging.specs.Requests.{Value, absent, text, number, columns, key_value, request_of, is_faulty, first_fault}
-use Rattle.judging.specs.Judging.{rows_of}
+use Rattle.judging.specs.Judging.{rows_of, Judgement as J}
 use Rattle.judging.specs.Meaning.{some_allows, some_denies}
-use Rattle.judging.specs.declared.judge.Judgement.TheVariants as J
 use Rattle.judging.proofs.Promises.{refused-request}
 use Rattle.judging.proofs.Refusing.{table-reads, request-sound}
 use Rattle.comparing.specs.Requests.{AdmitsNeeded, AdmitsOptional, AdmitsAddress, Admitted, Each, IsRequest}

@@ -16,10 +16,8 @@ use lib.Dec.{ltb}
 use lib.ListN.{length, drop, get_or}
 use borrow.Author.Tests.{ltb-true, ltb-false}
 use Rattle.stored.specs.Choice.{pick}
-use Rattle.stored.specs.Reading.{reading}
+use Rattle.stored.specs.Reading.{reading, ReadAnswer, ReadAnswer as A}
 use Rattle.stored.specs.Tables.{Statement}
-use Rattle.stored.specs.declared.reader.ReadAnswer.{ReadAnswer}
-use Rattle.stored.specs.declared.reader.ReadAnswer.TheVariants as A
 use Rattle.judging.specs.Requests.{Value, columns}
 use Rattle.judging.specs.Judging.{rows_of}
 use Rattle.columns.specs.Values.{values_in}

@@ -1,7 +1,7 @@
 -- The answers of the comparison by the published numbers (RULES 7.3), and how the code's answers are seen so.
 use Rattle.std.specs.Prelude.{ℕ, Result, Ok, Err, is_some, unwrap_or}
 use Rattle.refusals.specs.Numbers.{number_of}
-use Rattle.judging.specs.declared.request.Present.{Present}
+use Rattle.judging.specs.Requests.{Present}
 use Rattle.comparing.specs.declared.answers.Side.{Side}
 use Rattle.comparing.specs.declared.answers.Side.TheVariants as T
 use Rattle.comparing.specs.declared.answers.Refused.{Refused as Refusal}

@@ -2,10 +2,8 @@
 -- gaps; and for a gap asked for: 13, 15, then its values.
 use Rattle.std.specs.Prelude.{ℕ, zero, suc, ◌-◌, ◌*◌, ◌<◌, ◌≡◌, Bool, ◌||◌, List, [], ◌∷◌, ◌++◌, ◌⊎◌, ltb, length, take, drop, replicate}
 use Rattle.stored.specs.Choice.{pick}
-use Rattle.stored.specs.Reading.{reading}
+use Rattle.stored.specs.Reading.{reading, ReadAnswer, ReadAnswer as A}
 use Rattle.stored.specs.Tables.{Statement}
-use Rattle.stored.specs.declared.reader.ReadAnswer.{ReadAnswer}
-use Rattle.stored.specs.declared.reader.ReadAnswer.TheVariants as A
 use Rattle.judging.specs.Requests.{Value, absent, text, number, is_present, columns, column_of, request_of}
 use Rattle.judging.specs.Judging.{rows_of}
 use Rattle.columns.specs.Values.{values_in}

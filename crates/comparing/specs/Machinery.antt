@@ -2,5 +2,6 @@
 pub mod Kinds
 pub mod Product
 pub mod Adding
+pub mod Refusing
 pub mod Survey
 pub mod ShownValues

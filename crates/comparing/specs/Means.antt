@@ -2,10 +2,8 @@
 -- and of a gap that is shown; and what a request is, in the judge's words too.
 use Rattle.std.specs.Prelude.{ℕ, ◌^◌, ◌≤◌, ◌<◌, ◌≡◌, List, [], length, get_or, take, drop}
 use Rattle.stored.specs.Entries.{Bytes}
-use Rattle.judging.specs.Requests.{Value, column_of, request_of}
-use Rattle.judging.specs.Judging.{rows_of, judgement}
-use Rattle.judging.specs.declared.request.Present.{Present}
-use Rattle.judging.specs.declared.judge.Judgement.TheVariants as J
+use Rattle.judging.specs.Requests.{Value, column_of, request_of, Present}
+use Rattle.judging.specs.Judging.{rows_of, judgement, Judgement as J}
 use Rattle.comparing.specs.Order.{Earlier, In, Ascending}
 use Rattle.comparing.specs.Requests.{Each, IsRequest}
 use Rattle.comparing.specs.Gaps.{AlikeFrom, FirstOf, IsGap}

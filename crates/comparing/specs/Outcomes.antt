@@ -2,9 +2,8 @@
 -- 10 by column, 11 by column, 12, then the answer; to the question for a gap that is 13, or its values. Each case says what it is given
 -- for, and that none of those before it is. (15 is no case: it is never given.)
 use Rattle.std.specs.Prelude.{ℕ, ◌≤◌, ◌<◌, ◌≡◌, Bool, true, false, List, ◌++◌, ◌⊎◌, length, drop, replicate}
-use Rattle.stored.specs.Reading.{reading}
+use Rattle.stored.specs.Reading.{reading, ReadAnswer as A}
 use Rattle.stored.specs.Tables.{Statement}
-use Rattle.stored.specs.declared.reader.ReadAnswer.TheVariants as A
 use Rattle.judging.specs.Requests.{Value, columns}
 use Rattle.judging.specs.Judging.{rows_of}
 use Rattle.comparing.specs.Gaps.{Counted, IsGap}

@@ -33,6 +33,21 @@ pub struct Refused {
     pub place: usize,
 }
 
+impl Refused {
+    ghost use Rattle.std.specs.Prelude.{◌≡◌};
+
+    // A refusal of both tables together.
+    pub(crate) fn together(reason: Reason, place: usize) -> Refused
+        ensures { result ≡ record { reason = reason; table = Side.Comparison; place = place } }
+    {
+        Refused {
+            reason,
+            table: Side::Comparison,
+            place,
+        }
+    }
+}
+
 // What a shown gap is, beside its bytes: the lengths of the values of columns 0 to 6, and the address. A key that is absent has none.
 #[derive(Clone, Copy, Debug, PartialEq, Eq)]
 pub struct Shape {

@@ -1,81 +1,38 @@
 // Kinds of request as sets of rows: counting the gaps among them, and finding gap k.
-ghost use Rattle.std.specs.Prelude.{◌≡◌, map, ◌+◌, ◌-◌, ◌*◌, ◌%◌, ◌^◌, ◌≤◌, ◌<◌, length};
-ghost use Rattle.judging.specs.Machinery.Rows.{bit_of};
+ghost use Rattle.std.specs.Prelude.{◌≡◌, map, ◌+◌, ◌-◌, ◌*◌, ◌%◌, ◌^◌, ◌≤◌, ◌<◌, length, IfSome, MatchOption};
 ghost use Rattle.states.specs.Machinery.Rows.{prints_at};
 ghost use Rattle.comparing.specs.Compared.{product, most_kinds};
-ghost use Rattle.comparing.specs.Machinery.Kinds.{allowed_rows, is_gap_rows, count_of, step_of, prints_between, prints_in, Ascending, Bounded, prints_along, meet_all, MeetsAhead, KindsAhead, is_settled};
+ghost use Rattle.comparing.specs.Machinery.Kinds.{count_of, step_of, column_prints, prints_in, Ascending, Bounded, prints_along, meet_all, MeetsAhead, KindsAhead};
 
 use crate::limits::{ALL_ROWS, COLUMNS};
+use crate::sides::Sides;
 use states::limits::PRINTS;
 
-// The number of rows of the first table, its allow rows, and the second table's allow rows.
-#[derive(Clone, Copy)]
-pub struct Sides {
-    pub size: u64,
-    pub allow: u64,
-    pub other: u64,
-}
-
-// The first table's rows among the rows of both.
-fn first_rows(sides: Sides, rows: u64) -> u64
-    requires { sides.size ≤ 32 }
-    ensures { result ≡ rows % 2 ^ sides.size }
+// The footprints of a column.
+fn column_prints<'a>(words: &'a [u64], bounds: &[usize; 9], column: usize) -> &'a [u64]
+    requires bounded { Bounded words.now bounds.now }
+    requires low { column < 8 }
+    ensures { result.now ≡ column_prints words.now bounds.now column }
 {
-    rows % (1u64 << sides.size)
-}
-
-// All rows that apply allow, and there are some.
-fn is_allowed_rows(rows: u64, allow: u64) -> bool
-    ensures { result ≡ allowed_rows rows allow }
-{
-    if rows & allow == rows {
-        return rows != 0;
-    }
-    false
-}
-
-// The first table allows by its rows, and the second does not by its own. The one place that decides which kinds are listed.
-fn is_gap(sides: Sides, rows: u64) -> bool
-    requires { sides.size ≤ 32 }
-    ensures { result ≡ is_gap_rows sides rows }
-{
-    let first = first_rows(sides, rows);
-    let second = rows >> sides.size;
-    if is_allowed_rows(first, sides.allow) {
-        return !is_allowed_rows(second, sides.other);
-    }
-    false
+    &words[PRINTS + bounds[column]..PRINTS + bounds[column + 1]]
 }
 
 // The rows of a set that all footprints of a column have too.
-fn meet_column(words: &[u64], from: usize, to: usize, rows: u64) -> u64
-    requires { (from ≤ to) × (prints_at + to ≤ length words.now) }
-    ensures { result ≡ meet_all rows (prints_between words.now from to) }
+fn meet_column(prints: &[u64], rows: u64) -> u64
+    ensures { result ≡ meet_all rows prints.now }
 {
-    let mut i = from;
-    let mut left = rows;
-    while i < to {
-        let print = words[PRINTS + i];
-        left = left & print;
-        i += 1;
-    }
-    left
+    prints.iter().fold(rows, |left, print| left & *print)
 }
 
 // For each column, the rows that all footprints of the columns from it on have.
-fn meets_of(words: &[u64], bounds: [usize; 9]) -> [u64; 9]
-    requires { Bounded words.now bounds }
-    ensures { MeetsAhead words.now bounds result }
+fn meets_of(words: &[u64], bounds: &[usize; 9]) -> [u64; 9]
+    requires { Bounded words.now bounds.now }
+    ensures { MeetsAhead words.now bounds.now result }
 {
     let mut meets = [ALL_ROWS; 9];
-    let mut behind: usize = COLUMNS;
-    while 0 < behind {
-        let column = behind - 1;
-        let from = bounds[column];
-        let to = bounds[behind];
-        let rows = meets[behind];
-        meets[column] = meet_column(words, from, to, rows);
-        behind = column;
+    for column in (0..COLUMNS).rev() {
+        let rows = meets[column + 1];
+        meets[column] = meet_column(column_prints(words, bounds, column), rows);
     }
     meets
 }
@@ -89,88 +46,16 @@ fn kinds_with(count: usize, kinds: u64) -> u64
 }
 
 // For each column, the number of kinds of the columns from it on, as a number of 32 bits.
-fn kinds_of(bounds: [usize; 9]) -> [u64; 9]
-    requires { Ascending bounds }
-    ensures { KindsAhead bounds result }
+fn kinds_of(bounds: &[usize; 9]) -> [u64; 9]
+    requires { Ascending bounds.now }
+    ensures { KindsAhead bounds.now result }
 {
     let mut kinds = [1u64; 9];
-    let mut behind: usize = COLUMNS;
-    while 0 < behind {
-        let column = behind - 1;
-        let from = bounds[column];
-        let to = bounds[behind];
-        let more = kinds[behind];
-        kinds[column] = kinds_with(to - from, more);
-        behind = column;
+    for column in (0..COLUMNS).rev() {
+        let more = kinds[column + 1];
+        kinds[column] = kinds_with(bounds[column + 1] - bounds[column], more);
     }
     kinds
-}
-
-// No column ahead can change the verdict: no allow row of the first table is left, or all that are left are in every footprint ahead.
-fn is_settled(sides: Sides, meet: u64, rows: u64) -> bool
-    requires { sides.size ≤ 32 }
-    ensures { result ≡ is_settled sides meet rows }
-{
-    if first_rows(sides, rows) & sides.allow == 0 {
-        return true;
-    }
-    rows & meet == rows
-}
-
-// The gaps among so many kinds that all have these rows.
-fn settled(sides: Sides, rows: u64, kinds: u64) -> u64
-    requires { sides.size ≤ 32 }
-    ensures { result ≡ kinds * bit_of (is_gap_rows sides rows) }
-{
-    if is_gap(sides, rows) {
-        return kinds;
-    }
-    0
-}
-
-// The gaps among the kinds of the columns from one on, given the rows still left. A branch that is settled is counted at once.
-fn count(
-    words: &[u64],
-    bounds: [usize; 9],
-    meets: [u64; 9],
-    kinds: [u64; 9],
-    sides: Sides,
-    column: usize,
-    rows: u64,
-) -> u64
-    requires { Bounded words.now bounds × MeetsAhead words.now bounds meets × KindsAhead bounds kinds × (sides.size ≤ 32) × (column ≤ 8) × (product (map length (prints_in words.now bounds column)) ≤ most_kinds) }
-    ensures { result ≡ count_of sides (prints_in words.now bounds column) rows }
-{
-    if column == COLUMNS {
-        return settled(sides, rows, 1);
-    }
-    let from = bounds[column];
-    let to = bounds[column + 1];
-    let meet = meets[column + 1];
-    let more = kinds[column + 1];
-    let mut i = from;
-    let mut sum: u64 = 0;
-    while i < to {
-        let print = words[PRINTS + i];
-        let left = rows & print;
-        i += 1;
-        if is_settled(sides, meet, left) {
-            sum += settled(sides, left, more);
-            continue;
-        }
-        sum += count(words, bounds, meets, kinds, sides, column + 1, left);
-    }
-    sum
-}
-
-// The gaps among all kinds.
-pub(crate) fn count_gaps(words: &[u64], bounds: [usize; 9], sides: Sides) -> u64
-    requires { Bounded words.now bounds × (sides.size ≤ 32) × (product (map length (prints_in words.now bounds 0)) ≤ most_kinds) }
-    ensures { result ≡ count_of sides (prints_in words.now bounds 0) (2 ^ 64 - 1) }
-{
-    let meets = meets_of(words, bounds);
-    let kinds = kinds_of(bounds);
-    count(words, bounds, meets, kinds, sides, 0, ALL_ROWS)
 }
 
 // A footprint of a column, and what is left of k there.
@@ -180,64 +65,104 @@ pub struct Step {
     pub left: u64,
 }
 
-// The footprint of a column in which gap k lies, counted among the kinds of the columns from this one on.
-fn step_to(
-    words: &[u64],
-    bounds: [usize; 9],
-    meets: [u64; 9],
-    kinds: [u64; 9],
-    sides: Sides,
-    column: usize,
-    rows: u64,
-    k: u64,
-) -> Step
-    requires { Bounded words.now bounds × MeetsAhead words.now bounds meets × KindsAhead bounds kinds × (sides.size ≤ 32) × (column < 8) × (product (map length (prints_in words.now bounds column)) ≤ most_kinds) }
-    ensures { result ≡ step_of sides (prints_in words.now bounds column) rows k }
-{
-    let from = bounds[column];
-    let to = bounds[column + 1];
-    let mut i = from;
-    let mut left = k;
-    while i < to {
-        let print = words[PRINTS + i];
-        let here = count(words, bounds, meets, kinds, sides, column + 1, rows & print);
-        if left < here {
-            return Step {
-                print: print,
-                left: left,
-            };
-        }
-        left -= here;
-        i += 1;
-    }
-    Step {
-        print: 0,
-        left: left,
-    }
+// The footprints of all columns in the workspace, those of a column from its bound to the next one's; of the columns from each one on, the
+// rows that all their footprints have, and the number of their kinds as a number of 32 bits; and whose rows they are.
+#[derive(Clone, Copy)]
+pub struct Footprints<'a> {
+    pub words: &'a [u64],
+    pub bounds: [usize; 9],
+    pub meets: [u64; 9],
+    pub kinds: [u64; 9],
+    pub sides: Sides,
+    pub ghost bounded: { Bounded words.now bounds },
+    pub ghost meets_ahead: { MeetsAhead words.now bounds meets },
+    pub ghost kinds_ahead: { KindsAhead bounds kinds },
 }
 
-// The footprints of gap k, column by column. Behind a column without footprints there are no kinds, and all are 0.
-pub(crate) fn gap_prints(words: &[u64], bounds: [usize; 9], sides: Sides, k: u64) -> [u64; 8]
-    requires { Bounded words.now bounds × (sides.size ≤ 32) × (product (map length (prints_in words.now bounds 0)) ≤ most_kinds) }
-    ensures { result ≡ prints_along sides (prints_in words.now bounds 0) (2 ^ 64 - 1) k }
-{
-    let meets = meets_of(words, bounds);
-    let kinds = kinds_of(bounds);
-    let mut prints = [0u64; 8];
-    let mut rows = ALL_ROWS;
-    let mut left = k;
-    let mut column: usize = 0;
-    while column < COLUMNS {
-        let from = bounds[column];
-        let to = bounds[column + 1];
-        if from == to {
-            return prints;
+impl<'a> Footprints<'a> {
+    pub(crate) fn new(words: &'a [u64], bounds: [usize; 9], sides: Sides) -> Footprints<'a>
+        requires { Bounded words.now bounds }
+        ensures words { result.words ≡ words.entry }
+        ensures bounds { result.bounds ≡ bounds }
+        ensures sides { result.sides ≡ sides }
+    {
+        let meets = meets_of(words, &bounds);
+        let kinds = kinds_of(&bounds);
+        Footprints {
+            words,
+            bounds,
+            meets,
+            kinds,
+            sides,
         }
-        let step = step_to(words, bounds, meets, kinds, sides, column, rows, left);
-        prints[column] = step.print;
-        rows = rows & step.print;
-        left = step.left;
-        column += 1;
     }
-    prints
+
+    // The gaps among the kinds of the columns from one on, given the rows still left. A branch that is settled is counted at once.
+    fn count(&self, column: usize, rows: u64) -> u64
+        requires low { column ≤ 8 }
+        requires few { product (map length (prints_in self.now.words.now self.now.bounds column)) ≤ most_kinds }
+        ensures { result ≡ count_of self.now.sides (prints_in self.now.words.now self.now.bounds column) rows }
+    {
+        let sides = self.sides;
+        if column == COLUMNS {
+            return sides.settled(rows, 1);
+        }
+        let meet = self.meets[column + 1];
+        let more = self.kinds[column + 1];
+        let mut sum: u64 = 0;
+        for &print in column_prints(self.words, &self.bounds, column) {
+            let left = rows & print;
+            if sides.is_settled(meet, left) {
+                sum += sides.settled(left, more);
+            } else {
+                sum += self.count(column + 1, left);
+            }
+        }
+        sum
+    }
+
+    // The gaps among all kinds.
+    pub(crate) fn count_gaps(&self) -> u64
+        requires { product (map length (prints_in self.now.words.now self.now.bounds 0)) ≤ most_kinds }
+        ensures { result ≡ count_of self.now.sides (prints_in self.now.words.now self.now.bounds 0) (2 ^ 64 - 1) }
+    {
+        self.count(0, ALL_ROWS)
+    }
+
+    // The footprint of a column in which gap k lies, counted among the kinds of the columns from this one on.
+    fn step_to(&self, column: usize, rows: u64, k: u64) -> Option<Step>
+        requires low { column < 8 }
+        requires few { product (map length (prints_in self.now.words.now self.now.bounds column)) ≤ most_kinds }
+        ensures found { let step = step_of self.now.sides (prints_in self.now.words.now self.now.bounds column) rows k in MatchOption result (step.print ≡ 0) (λ found. found ≡ step) }
+        ensures few { IfSome result (λ found. product (map length (prints_in self.now.words.now self.now.bounds (column + 1))) ≤ most_kinds) }
+    {
+        let mut left = k;
+        for &print in column_prints(self.words, &self.bounds, column) {
+            let here = self.count(column + 1, rows & print);
+            if left < here {
+                return Some(Step { print, left });
+            }
+            left -= here;
+        }
+        None
+    }
+
+    // The footprints of gap k, column by column. Behind a column in which it does not lie there are no kinds, and all are 0.
+    pub(crate) fn gap_prints(&self, k: u64) -> [u64; 8]
+        requires { product (map length (prints_in self.now.words.now self.now.bounds 0)) ≤ most_kinds }
+        ensures { result ≡ prints_along self.now.sides (prints_in self.now.words.now self.now.bounds 0) (2 ^ 64 - 1) k }
+    {
+        let mut prints = [0u64; 8];
+        let mut rows = ALL_ROWS;
+        let mut left = k;
+        for column in 0..COLUMNS {
+            let Some(step) = self.step_to(column, rows, left) else {
+                return prints;
+            };
+            prints[column] = step.print;
+            rows &= step.print;
+            left = step.left;
+        }
+        prints
+    }
 }

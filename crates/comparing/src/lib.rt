@@ -7,4 +7,5 @@ pub mod compare;
 pub mod kinds;
 pub mod limits;
 pub mod show;
+pub mod sides;
 pub mod survey;

@@ -7,7 +7,7 @@ ghost use Rattle.states.specs.Machinery.Rows.{prints_at};
 ghost use Rattle.columns.specs.Values.{values_in};
 ghost use Rattle.columns.specs.Machinery.Plan.{TextPlans, AddressPlans};
 ghost use Rattle.columns.specs.Machinery.Prints.{Prepared};
-ghost use Rattle.columns.specs.Machinery.Both.{BothRead, Narrow, FewNetworks};
+ghost use Rattle.columns.specs.Machinery.Both.{Narrow, FewNetworks};
 ghost use Rattle.comparing.specs.Columns.{Few};
 ghost use Rattle.comparing.specs.Compared.{value_bytes, Uncrowded};
 ghost use Rattle.comparing.specs.Machinery.Survey.{HasStates};
@@ -20,60 +20,53 @@ use columns::ends::next_edge;
 use columns::limits::{ADDRESSES, NO_ADDRESS};
 use columns::plan::{Plans, lay_plans};
 use columns::prints::{Prints, absent_print, address_print, prints_of, state_print};
+use columns::tables::Tables;
 use states::limits::FIRST_BYTE;
 use states::rows::row_at;
 use states::strings::lay_string;
 
-// The lowest of the states from one on that has a footprint, or the number of states.
+// The lowest of the states from one on that has a footprint.
 fn find_state(
     words: &[u64],
-    first: &[u8],
-    second: &[u8],
+    tables: Tables,
     column: usize,
     from: usize,
     states: usize,
     prints: Prints,
-    size: u64,
     print: u64,
-) -> usize
-    requires { BothRead first.now second.now size × HasStates (rows_of first.now) (rows_of second.now) column words.now states
-        × (from ≤ states) × (prints_at ≤ length words.now) × Prepared first.now second.now column words.now prints }
-    ensures { FoundState (rows_of first.now) (rows_of second.now) column words.now from states print result }
+) -> Option<usize>
+    requires { HasStates (rows_of tables.first.now) (rows_of tables.second.now) column words.now states
+        × (from ≤ states) × (prints_at ≤ length words.now) × Prepared tables.first.now tables.second.now column words.now prints }
+    ensures { FoundState (rows_of tables.entry.first.now) (rows_of tables.entry.second.now) column words.now from states print result }
 {
-    let mut i = from;
-    while i < states {
+    for i in from..states {
         let row = row_at(words, i);
-        if state_print(words, row, first, second, column, prints, size) == print {
-            return i;
+        if state_print(words, row, tables, column, prints) == print {
+            return Some(i);
         }
-        i += 1;
     }
-    states
+    None
 }
 
 // The first string that shows a footprint, from a state on, laid down in its place.
 fn show_state(
     words: &[u64],
-    first: &[u8],
-    second: &[u8],
+    tables: Tables,
     column: usize,
     from: usize,
     states: usize,
     plans: Plans,
-    size: u64,
     print: u64,
     values: &mut [u8],
 ) -> usize
-    requires { BothRead first.now second.now size × HasStates (rows_of first.now) (rows_of second.now) column words.now states
-        × StartsAt (rows_of first.now ++ rows_of second.now) column from × (column < 7) × (prints_at ≤ length words.now)
-        × (value_bytes ≤ length values.old) × ((s : List ℕ) × FirstWith (rows_of first.now) (rows_of second.now) column print (text s))
-        × TextPlans first.now second.now column words.now plans }
-    ensures { LaysString (rows_of first.now) (rows_of second.now) column print values.old values.new (Some result) }
+    requires { HasStates (rows_of tables.first.now) (rows_of tables.second.now) column words.now states
+        × StartsAt (rows_of tables.first.now ++ rows_of tables.second.now) column from × (column < 7) × (prints_at ≤ length words.now)
+        × (value_bytes ≤ length values.old) × ((s : List ℕ) × FirstWith (rows_of tables.first.now) (rows_of tables.second.now) column print (text s))
+        × TextPlans tables.first.now tables.second.now column words.now plans }
+    ensures { LaysString (rows_of tables.entry.first.now) (rows_of tables.entry.second.now) column print values.old values.new (Some result) }
 {
     let prints = prints_of(words, plans);
-    let i = find_state(
-        words, first, second, column, from, states, prints, size, print,
-    );
+    let i = find_state(words, tables, column, from, states, prints, print).unwrap();
     lay_string(words, i, states, values, column * VALUE_ROOM)
 }
 
@@ -89,92 +82,61 @@ fn show_any(column: usize, values: &mut [u8]) -> usize
 // The first value that shows a footprint of a column that is always there, laid down in its place.
 fn show_text(
     words: &mut [u64],
-    first: &[u8],
-    second: &[u8],
+    tables: Tables,
     column: usize,
-    size: u64,
     print: u64,
     values: &mut [u8],
 ) -> usize
-    requires { BothRead first.now second.now size × Narrow (rows_of first.now ++ rows_of second.now) column
-        × Few (values_in column (rows_of first.now ++ rows_of second.now)) × (column < 3) × (prints_at ≤ length words.old)
-        × (value_bytes ≤ length values.old) × ((v : Value) × FirstWith (rows_of first.now) (rows_of second.now) column print v) }
-    ensures { Lays (rows_of first.now) (rows_of second.now) column print values.old values.new (Some result) }
+    requires { Narrow (rows_of tables.first.now ++ rows_of tables.second.now) column
+        × Few (values_in column (rows_of tables.first.now ++ rows_of tables.second.now)) × (column < 3) × (prints_at ≤ length words.old)
+        × (value_bytes ≤ length values.old) × ((v : Value) × FirstWith (rows_of tables.first.now) (rows_of tables.second.now) column print v) }
+    ensures { Lays (rows_of tables.entry.first.now) (rows_of tables.entry.second.now) column print values.old values.new (Some result) }
 {
-    let found = states_of(words, first, second, column);
+    let found = states_of(words, tables, column);
     if found.positions == 0 {
         return show_any(column, values);
     }
-    let plans = lay_plans(words, first, second, column, true, found.own);
-    show_state(
-        words,
-        first,
-        second,
-        column,
-        1,
-        found.states,
-        plans,
-        size,
-        print,
-        values,
-    )
+    let states = found.states.unwrap();
+    let plans = lay_plans(words, tables.first, tables.second, column, true, found.own);
+    show_state(words, tables, column, 1, states, plans, print, values)
 }
 
 // The first value that shows a footprint of a column that holds a string key, laid down in its place, unless absence shows it.
 fn show_key(
     words: &mut [u64],
-    first: &[u8],
-    second: &[u8],
+    tables: Tables,
     column: usize,
-    size: u64,
     print: u64,
     values: &mut [u8],
 ) -> Option<usize>
-    requires { BothRead first.now second.now size × Narrow (rows_of first.now ++ rows_of second.now) column
-        × Few (values_in column (rows_of first.now ++ rows_of second.now)) × (3 ≤ column) × (column < 7) × (prints_at ≤ length words.old)
-        × (value_bytes ≤ length values.old) × ((v : Value) × FirstWith (rows_of first.now) (rows_of second.now) column print v) }
-    ensures { Lays (rows_of first.now) (rows_of second.now) column print values.old values.new result }
+    requires { Narrow (rows_of tables.first.now ++ rows_of tables.second.now) column
+        × Few (values_in column (rows_of tables.first.now ++ rows_of tables.second.now)) × (3 ≤ column) × (column < 7) × (prints_at ≤ length words.old)
+        × (value_bytes ≤ length values.old) × ((v : Value) × FirstWith (rows_of tables.first.now) (rows_of tables.second.now) column print v) }
+    ensures { Lays (rows_of tables.entry.first.now) (rows_of tables.entry.second.now) column print values.old values.new result }
 {
-    if absent_print(first, second, column, size) == print {
+    if absent_print(tables.first, tables.second, column, tables.size) == print {
         return None;
     }
-    let found = states_of(words, first, second, column);
-    let plans = lay_plans(words, first, second, column, true, found.own);
-    Some(show_state(
-        words,
-        first,
-        second,
-        column,
-        0,
-        found.states,
-        plans,
-        size,
-        print,
-        values,
-    ))
+    let found = states_of(words, tables, column);
+    let states = found.states.unwrap();
+    let plans = lay_plans(words, tables.first, tables.second, column, true, found.own);
+    Some(show_state(words, tables, column, 0, states, plans, print, values))
 }
 
 // The first address that shows a footprint, unless absence shows it: only address 0 and the ends of networks can be the first.
-fn show_address(
-    words: &[u64],
-    first: &[u8],
-    second: &[u8],
-    plans: Plans,
-    size: u64,
-    print: u64,
-) -> Option<u32>
-    requires { BothRead first.now second.now size × AddressPlans first.now second.now words.now plans × (prints_at ≤ length words.now) }
-    ensures { ShowsAddress (rows_of first.now) (rows_of second.now) print result }
+fn show_address(words: &[u64], tables: Tables, plans: Plans, print: u64) -> Option<u32>
+    requires { AddressPlans tables.first.now tables.second.now words.now plans × (prints_at ≤ length words.now) }
+    ensures { ShowsAddress (rows_of tables.entry.first.now) (rows_of tables.entry.second.now) print result }
 {
-    if absent_print(first, second, ADDRESSES, size) == print {
+    if absent_print(tables.first, tables.second, ADDRESSES, tables.size) == print {
         return None;
     }
     let mut x: u64 = 0;
     while x < NO_ADDRESS {
-        if address_print(words, first, second, plans, size, x) == print {
+        if address_print(words, tables, plans, x) == print {
             return Some(x as u32);
         }
-        x = next_edge(words, first, second, plans, x);
+        x = next_edge(words, tables.first, tables.second, plans, x);
     }
     None
 }
@@ -184,38 +146,32 @@ fn clear_values(values: &mut [u8])
     requires { value_bytes ≤ length values.old }
     ensures { values.new ≡ replicate value_bytes 0 ++ drop value_bytes values.old }
 {
-    let mut i: usize = 0;
-    while i < VALUE_BYTES {
-        values[i] = 0;
-        i += 1;
-    }
+    values[..VALUE_BYTES].fill(0);
 }
 
 // Lays down the values of the gap with these footprints, column by column.
 pub(crate) fn show_gap(
     words: &mut [u64],
-    first: &[u8],
-    second: &[u8],
-    size: u64,
+    tables: Tables,
     prints: [u64; 8],
     values: &mut [u8],
 ) -> Shape
-    requires { BothRead first.now second.now size × ((column : ℕ) → column < 7 → Narrow (rows_of first.now ++ rows_of second.now) column)
-        × Uncrowded (rows_of first.now ++ rows_of second.now) × (prints_at ≤ length words.old) × (value_bytes ≤ length values.old)
-        × ((request : List Value) × RequestWith (rows_of first.now) (rows_of second.now) prints request)
-        × FewNetworks (rows_of first.now ++ rows_of second.now) }
-    ensures { LaysGap (rows_of first.now) (rows_of second.now) prints values.old values.new result }
+    requires { ((column : ℕ) → column < 7 → Narrow (rows_of tables.first.now ++ rows_of tables.second.now) column)
+        × Uncrowded (rows_of tables.first.now ++ rows_of tables.second.now) × (prints_at ≤ length words.old) × (value_bytes ≤ length values.old)
+        × ((request : List Value) × RequestWith (rows_of tables.first.now) (rows_of tables.second.now) prints request)
+        × FewNetworks (rows_of tables.first.now ++ rows_of tables.second.now) }
+    ensures { LaysGap (rows_of tables.entry.first.now) (rows_of tables.entry.second.now) prints values.old values.new result }
 {
     clear_values(values);
-    let principal = show_text(words, first, second, 0, size, prints[0], values);
-    let action = show_text(words, first, second, 1, size, prints[1], values);
-    let resource = show_text(words, first, second, 2, size, prints[2], values);
-    let vpc = show_key(words, first, second, 3, size, prints[3], values);
-    let prefix = show_key(words, first, second, 4, size, prints[4], values);
-    let vpce = show_key(words, first, second, 5, size, prints[5], values);
-    let referer = show_key(words, first, second, 6, size, prints[6], values);
-    let plans = lay_plans(words, first, second, ADDRESSES, false, 0);
-    let address = show_address(words, first, second, plans, size, prints[7]);
+    let principal = show_text(words, tables, 0, prints[0], values);
+    let action = show_text(words, tables, 1, prints[1], values);
+    let resource = show_text(words, tables, 2, prints[2], values);
+    let vpc = show_key(words, tables, 3, prints[3], values);
+    let prefix = show_key(words, tables, 4, prints[4], values);
+    let vpce = show_key(words, tables, 5, prints[5], values);
+    let referer = show_key(words, tables, 6, prints[6], values);
+    let plans = lay_plans(words, tables.first, tables.second, ADDRESSES, false, 0);
+    let address = show_address(words, tables, plans, prints[7]);
     Shape {
         principal,
         action,

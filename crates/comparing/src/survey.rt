@@ -1,66 +1,36 @@
 // The footprints of every column: which states its strings have, and which rows hold for each; or the column that has too many states.
-ghost use Rattle.std.specs.Prelude.{◌≡◌, ◌++◌, ◌+◌, ◌-◌, ◌*◌, ◌≤◌, ◌<◌, min, eqb, ltb, length};
-ghost use Rattle.stored.specs.Choice.{pick, some};
-ghost use Rattle.stored.specs.Entries.{entries_of};
-ghost use Rattle.stored.specs.Machinery.Following.{Accepted};
+ghost use Rattle.std.specs.Prelude.{◌≡◌, ◌++◌, ◌+◌, ◌-◌, ◌*◌, ◌≤◌, ◌<◌, min, ltb, length};
+ghost use Rattle.stored.specs.Choice.{pick};
 ghost use Rattle.judging.specs.Judging.{rows_of};
 ghost use Rattle.states.specs.Machinery.Rows.{prints_at};
 ghost use Rattle.columns.specs.Values.{values_in, sum_of};
 ghost use Rattle.columns.specs.Machinery.Plan.{TextPlans, AddressPlans};
 ghost use Rattle.columns.specs.Machinery.Prints.{Prepared};
-ghost use Rattle.columns.specs.Machinery.Both.{BothRead, Narrow, FewNetworks};
+ghost use Rattle.columns.specs.Machinery.Both.{Narrow, FewNetworks};
 ghost use Rattle.comparing.specs.Compared.{most_kinds};
-ghost use Rattle.comparing.specs.Machinery.Survey.{HasRoom, prints_between, Added, HasStates, RowsAdded, Gathered, FoundStates, SurveyedColumn, Surveyable, Surveyed};
+ghost use Rattle.comparing.specs.Machinery.Survey.{HasRoom, Added, HasStates, RowsAdded, Gathered, FoundStates, SurveyedColumn, Surveyable, Surveyed};
 
+use crate::answers::{Refused, Side};
 use crate::limits::{COLUMNS, MOST_KINDS};
 use columns::contents::lay_codes;
 use columns::ends::next_edge;
 use columns::limits::{ADDRESSES, NO_ADDRESS};
 use columns::plan::{Plans, lay_plans};
 use columns::prints::{Prints, absent_print, address_print, prints_of, state_print};
+use columns::tables::Tables;
+use refusals::Reason;
 use states::explore::explore;
-use states::limits::{CODES, MOST_STATES, PRINTS, TAKEN};
+use states::limits::{CODES, PRINTS, TAKEN};
 use states::rows::row_at;
 use states::taken::lay_taken;
 
-// What surveying a column finds: more than 512 states, or where its footprints end.
-#[derive(Clone, Copy)]
-pub enum Column {
-    Crowded,
-    Within(usize),
-}
-
-// The states of a column of strings: the positions of the first table's values, of both tables' values, and the number of states.
+// The states of a column of strings: the positions of the first table's values, of both tables' values, and the number of states, unless
+// they pass 512.
 #[derive(Clone, Copy)]
 pub struct States {
     pub own: usize,
     pub positions: usize,
-    pub states: usize,
-}
-
-// What surveying all columns finds: a crowded column, the lowest; or whether there are too many kinds, and where the footprints of each
-// column begin and end.
-#[derive(Clone, Copy)]
-pub struct AllColumns {
-    pub crowded: bool,
-    pub column: usize,
-    pub over: bool,
-    pub bounds: [usize; 9],
-}
-
-// A footprint is among those from one bound to another.
-fn is_among(words: &[u64], from: usize, to: usize, print: u64) -> bool
-    requires { (from ≤ to) × (prints_at + to ≤ length words.now) }
-    ensures { result ≡ some (λ x. eqb x print) (prints_between words.now from to) }
-{
-    let mut i = from;
-    while i < to {
-        if words[PRINTS + i] == print {
-            return true;
-        }
-        i += 1;
-    }
-    false
+    pub states: Option<usize>,
 }
 
 // Lays a footprint down behind those of its column, unless it is among them, and answers where they then end.
@@ -68,7 +38,7 @@ fn add_print(words: &mut [u64], from: usize, to: usize, print: u64) -> usize
     requires { (from ≤ to) × (prints_at + to < length words.old) }
     ensures { Added words.old words.new from to print result }
 {
-    if is_among(words, from, to, print) {
+    if words[PRINTS + from..PRINTS + to].contains(&print) {
         return to;
     }
     words[PRINTS + to] = print;
@@ -78,28 +48,24 @@ fn add_print(words: &mut [u64], from: usize, to: usize, print: u64) -> usize
 // The footprints of the rows of states from one on.
 fn gather_rows(
     words: &mut [u64],
-    first: &[u8],
-    second: &[u8],
+    tables: Tables,
     column: usize,
     from: usize,
     start: usize,
     row: usize,
     states: usize,
     prints: Prints,
-    size: u64,
 ) -> usize
-    requires { BothRead first.now second.now size × HasStates (rows_of first.now) (rows_of second.now) column words.old states
+    requires { HasStates (rows_of tables.first.now) (rows_of tables.second.now) column words.old states
         × (row ≤ states) × (from ≤ start) × (prints_at + start + states < length words.old)
-        × Prepared first.now second.now column words.old prints }
-    ensures { RowsAdded (rows_of first.now) (rows_of second.now) column words.old words.new from start row (states - row) result }
+        × Prepared tables.first.now tables.second.now column words.old prints }
+    ensures { RowsAdded (rows_of tables.entry.first.now) (rows_of tables.entry.second.now) column words.old words.new from start row (states - row) result }
 {
     let mut to = start;
-    let mut i = row;
-    while i < states {
+    for i in row..states {
         let state = row_at(words, i);
-        let print = state_print(words, state, first, second, column, prints, size);
+        let print = state_print(words, state, tables, column, prints);
         to = add_print(words, from, to, print);
-        i += 1;
     }
     to
 }
@@ -108,114 +74,78 @@ fn gather_rows(
 // admitted in columns 0 to 2, but where neither table has a value there every string has its state.
 fn gather_texts(
     words: &mut [u64],
-    first: &[u8],
-    second: &[u8],
+    tables: Tables,
     column: usize,
     from: usize,
     states: usize,
     positions: usize,
     plans: Plans,
-    size: u64,
 ) -> usize
-    requires { BothRead first.now second.now size × HasStates (rows_of first.now) (rows_of second.now) column words.old states
-        × (positions ≡ sum_of (values_in column (rows_of first.now ++ rows_of second.now))) × (column < 7) × HasRoom words.old from
-        × TextPlans first.now second.now column words.old plans }
-    ensures { Gathered (rows_of first.now) (rows_of second.now) column words.old words.new from result }
+    requires { HasStates (rows_of tables.first.now) (rows_of tables.second.now) column words.old states
+        × (positions ≡ sum_of (values_in column (rows_of tables.first.now ++ rows_of tables.second.now))) × (column < 7) × HasRoom words.old from
+        × TextPlans tables.first.now tables.second.now column words.old plans }
+    ensures { Gathered (rows_of tables.entry.first.now) (rows_of tables.entry.second.now) column words.old words.new from result }
 {
     let prints = prints_of(words, plans);
     if column < 3 {
         if positions == 0 {
             let state = row_at(words, 0);
-            let print = state_print(words, state, first, second, column, prints, size);
+            let print = state_print(words, state, tables, column, prints);
             return add_print(words, from, from, print);
         }
-        return gather_rows(
-            words, first, second, column, from, from, 1, states, prints, size,
-        );
+        return gather_rows(words, tables, column, from, from, 1, states, prints);
     }
-    let start = add_print(words, from, from, absent_print(first, second, column, size));
-    gather_rows(
-        words, first, second, column, from, start, 0, states, prints, size,
-    )
+    let absent = absent_print(tables.first, tables.second, column, tables.size);
+    let start = add_print(words, from, from, absent);
+    gather_rows(words, tables, column, from, start, 0, states, prints)
 }
 
 // The footprints of column 7: absent, then address 0 and each address where a network begins or has just ended.
-fn gather_addresses(
-    words: &mut [u64],
-    first: &[u8],
-    second: &[u8],
-    from: usize,
-    plans: Plans,
-    size: u64,
-) -> usize
-    requires { BothRead first.now second.now size × FewNetworks (rows_of first.now ++ rows_of second.now) × HasRoom words.old from
-        × AddressPlans first.now second.now words.old plans }
-    ensures { Gathered (rows_of first.now) (rows_of second.now) 7 words.old words.new from result }
+fn gather_addresses(words: &mut [u64], tables: Tables, from: usize, plans: Plans) -> usize
+    requires { FewNetworks (rows_of tables.first.now ++ rows_of tables.second.now) × HasRoom words.old from
+        × AddressPlans tables.first.now tables.second.now words.old plans }
+    ensures { Gathered (rows_of tables.entry.first.now) (rows_of tables.entry.second.now) 7 words.old words.new from result }
 {
-    let mut to = add_print(
-        words,
-        from,
-        from,
-        absent_print(first, second, ADDRESSES, size),
-    );
+    let absent = absent_print(tables.first, tables.second, ADDRESSES, tables.size);
+    let mut to = add_print(words, from, from, absent);
     let mut x: u64 = 0;
     while x < NO_ADDRESS {
-        let print = address_print(words, first, second, plans, size, x);
+        let print = address_print(words, tables, plans, x);
         to = add_print(words, from, to, print);
-        x = next_edge(words, first, second, plans, x);
+        x = next_edge(words, tables.first, tables.second, plans, x);
     }
     to
 }
 
-// The states of a column of strings: its codes are laid down, then all its states are found. 513 stands for more than 512.
-pub(crate) fn states_of(words: &mut [u64], first: &[u8], second: &[u8], column: usize) -> States
-    requires { Accepted (entries_of first.now) × Accepted (entries_of second.now) × Narrow (rows_of first.now ++ rows_of second.now) column × (prints_at ≤ length words.old) }
-    ensures { FoundStates (rows_of first.now) (rows_of second.now) column words.old words.new result }
+// The states of a column of strings: its codes are laid down, then all its states are found.
+pub(crate) fn states_of(words: &mut [u64], tables: Tables, column: usize) -> States
+    requires { Narrow (rows_of tables.first.now ++ rows_of tables.second.now) column × (prints_at ≤ length words.old) }
+    ensures { FoundStates (rows_of tables.entry.first.now) (rows_of tables.entry.second.now) column words.old words.new result }
 {
-    let own = lay_codes(&mut words[CODES..TAKEN], 0, first, column);
-    let positions = lay_codes(&mut words[CODES..TAKEN], own, second, column);
+    let own = lay_codes(&mut words[CODES..TAKEN], 0, tables.first, column);
+    let positions = lay_codes(&mut words[CODES..TAKEN], own, tables.second, column);
     lay_taken(words, positions);
     let states = explore(words, positions);
     States {
-        own: own,
-        positions: positions,
-        states: states,
+        own,
+        positions,
+        states,
     }
 }
 
-// The footprints of one column, laid down from a bound on.
-fn survey_column(
-    words: &mut [u64],
-    first: &[u8],
-    second: &[u8],
-    column: usize,
-    from: usize,
-    size: u64,
-) -> Column
-    requires { BothRead first.now second.now size × Surveyable (rows_of first.now ++ rows_of second.now) words.old
-        × (column < 8) × (from ≤ 1094) }
-    ensures { SurveyedColumn (rows_of first.now) (rows_of second.now) column words.old words.new from result }
+// The footprints of one column, laid down from a bound on: where they end, unless the column has too many states.
+fn survey_column(words: &mut [u64], tables: Tables, column: usize, from: usize) -> Option<usize>
+    requires { Surveyable (rows_of tables.first.now ++ rows_of tables.second.now) words.old × (column < 8) × (from ≤ 1094) }
+    ensures { SurveyedColumn (rows_of tables.entry.first.now) (rows_of tables.entry.second.now) column words.old words.new from result }
 {
     if column == ADDRESSES {
-        let networks = lay_plans(words, first, second, ADDRESSES, false, 0);
-        return Column::Within(gather_addresses(words, first, second, from, networks, size));
+        let networks = lay_plans(words, tables.first, tables.second, ADDRESSES, false, 0);
+        return Some(gather_addresses(words, tables, from, networks));
     }
-    let found = states_of(words, first, second, column);
-    if MOST_STATES < found.states {
-        return Column::Crowded;
-    }
-    let plans = lay_plans(words, first, second, column, true, found.own);
-    Column::Within(gather_texts(
-        words,
-        first,
-        second,
-        column,
-        from,
-        found.states,
-        found.positions,
-        plans,
-        size,
-    ))
+    let found = states_of(words, tables, column);
+    let states = found.states?;
+    let plans = lay_plans(words, tables.first, tables.second, column, true, found.own);
+    Some(gather_texts(words, tables, column, from, states, found.positions, plans))
 }
 
 // The product of the counts so far, or one more than the limit where it passes that.
@@ -224,53 +154,35 @@ fn most_kinds(kinds: u64, count: usize) -> u64
     ensures { result ≡ min (most_kinds + 1) (kinds * count) }
 {
     let product = kinds * (count as u64);
-    if MOST_KINDS < product {
-        return MOST_KINDS + 1;
-    }
-    product
+    product.min(MOST_KINDS + 1)
 }
 
 // Where the footprints of the next column go: once there are too many kinds, none are kept.
 fn next_bound(kinds: u64, from: usize, to: usize) -> usize
     ensures { result ≡ pick (ltb most_kinds kinds) from to }
 {
-    if MOST_KINDS < kinds {
-        return from;
-    }
-    to
+    if MOST_KINDS < kinds { from } else { to }
 }
 
-// The footprints of all columns, one behind the other; once there are too many kinds, only the states are still counted.
-pub(crate) fn survey(words: &mut [u64], first: &[u8], second: &[u8], size: u64) -> AllColumns
-    requires { BothRead first.now second.now size × Surveyable (rows_of first.now ++ rows_of second.now) words.old }
-    ensures { Surveyed (rows_of first.now) (rows_of second.now) words.new result }
+// The footprints of all columns, one behind the other: where those of each column begin and end. Once there are too many kinds, only the
+// states are still counted.
+pub(crate) fn survey(words: &mut [u64], tables: Tables) -> Result<[usize; 9], Refused>
+    requires { Surveyable (rows_of tables.first.now ++ rows_of tables.second.now) words.old }
+    ensures { Surveyed (rows_of tables.entry.first.now) (rows_of tables.entry.second.now) words.new result }
 {
     let mut bounds = [0usize; 9];
     let mut from: usize = 0;
     let mut kinds: u64 = 1;
-    let mut column: usize = 0;
-    while column < COLUMNS {
-        match survey_column(words, first, second, column, from, size) {
-            Column::Crowded => {
-                return AllColumns {
-                    crowded: true,
-                    column: column,
-                    over: false,
-                    bounds: bounds,
-                };
-            }
-            Column::Within(to) => {
-                kinds = most_kinds(kinds, to - from);
-                from = next_bound(kinds, from, to);
-                bounds[column + 1] = from;
-            }
-        }
-        column += 1;
+    for column in 0..COLUMNS {
+        let Some(to) = survey_column(words, tables, column, from) else {
+            return Err(Refused::together(Reason::Crowded, column));
+        };
+        kinds = most_kinds(kinds, to - from);
+        from = next_bound(kinds, from, to);
+        bounds[column + 1] = from;
     }
-    AllColumns {
-        crowded: false,
-        column: COLUMNS,
-        over: MOST_KINDS < kinds,
-        bounds: bounds,
+    if MOST_KINDS < kinds {
+        return Err(Refused::together(Reason::TooManyKinds, 0));
     }
+    Ok(bounds)
 }

@@ -2,8 +2,7 @@
 use Prim.Native.Nat.{ℕ}
 use mathlib.Core.Path.{◌≡◌}
 use mathlib.Core.List.{List}
-use Rattle.stored.specs.Reading.{reading}
-use Rattle.stored.specs.declared.reader.ReadAnswer.TheVariants as A
+use Rattle.stored.specs.Reading.{reading, ReadAnswer as A}
 use Rattle.stored.proofs.Accepting.{accepted, counted, few}
 use Rattle.columns.specs.Machinery.Both.{BothRead}
 

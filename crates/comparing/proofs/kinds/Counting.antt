@@ -20,7 +20,7 @@ use Rattle.judging.proofs.RowSets.{meet, below}
 use Rattle.comparing.specs.Gaps.{Counted, IsGap}
 use Rattle.comparing.specs.Machinery.Kinds.{is_gap_rows, total, count_of, steps_to, left_of, path_of}
 use Rattle.comparing.specs.Machinery.Product.{AllFirsts, in_front, product_of, keep, only_first, gaps_among, print_of, prints_from, SidesOf, values_at, Inside}
-use Rattle.comparing.specs.declared.kinds.Sides.{Sides}
+use Rattle.comparing.specs.declared.sides.Sides.{Sides}
 use Rattle.comparing.proofs.Members.{keep-joined, keep_same, keep-mapped, mapped_at}
 use Rattle.comparing.proofs.Alike.{holds_from, applies-from}
 use Rattle.comparing.proofs.kinds.Product.{product-length, firsts-length, product-gaps}

@@ -13,11 +13,11 @@ use lib.Pow.{pow_pos}
 use lib.Seq.{drop-drop, drop-set-lt, take-suc-set}
 use borrow.Author.Tests.{le-ltb}
 use Rattle.stored.specs.Choice.{pick}
-use Rattle.comparing.specs.Machinery.Kinds.{count_of, steps_to, left_of, prints_along, prints_from, prints_in, column_prints, Bounded}
-use Rattle.comparing.specs.declared.kinds.Sides.{Sides}
+use Rattle.comparing.specs.Machinery.Kinds.{count_of, steps_to, left_of, step_of, prints_along, prints_from, prints_in}
+use Rattle.comparing.specs.declared.sides.Sides.{Sides}
 use Rattle.comparing.specs.declared.kinds.Step.{Step}
 use Rattle.comparing.proofs.kinds.GapRows.{shortcut}
-use Rattle.comparing.proofs.kinds.KindsInWords.{prints-on, prints-length, step_in}
+use Rattle.comparing.proofs.kinds.KindsInWords.{along-on, step_in}
 
 -- the footprints of the columns before a column are laid, and the others are still 0
 pub record Laid (whole prints rest : List ℕ) (column : ℕ) : Type 0 where
@@ -91,29 +91,24 @@ module _ (sides : Sides) (words bounds : List ℕ) (column rows k : ℕ) where
       let none : 0 ≡ 8 - column = omega arith in
       subst (λ (n : ℕ). prints_along sides (prints_from n words bounds column) rows k ≡ replicate n 0) none refl
 
-  -- from a column without footprints on all are 0
-  pub along-empty : Bounded words bounds → column < 8 → get_or bounds column 0 ≡ get_or bounds (column + 1) 0
+  -- from a column on in which gap k does not lie all are 0
+  pub along-none : column < 8 → (step_of sides (prints_in words bounds column) rows k).print ≡ 0
       → prints_along sides (prints_in words bounds column) rows k ≡ replicate (8 - column) 0
-  along-empty bounded low e =
-      ap (λ (l : List (List ℕ)). prints_along sides l rows k) (prints-on words bounds column low)
-      ∙ ap (λ (l : List ℕ). prints_along sides (l ∷ behind) rows k)
-      (empty (column_prints words bounds column) (prints-length bounded column low ∙ none))
-      ∙ ap (λ (n : ℕ). 0 ∷ prints_along sides behind n k) (and_zero_r rows)
-      ∙ ap (λ (l : List ℕ). 0 ∷ l) (no_rows sides behind k ∙ ap (λ (n : ℕ). replicate n 0) (many (8 - (column + 1)) (column + 1)))
+  along-none low e =
+      along-on words bounds column low sides rows k (step_of sides (prints_in words bounds column) rows k) refl
+      ∙ ap (λ (n : ℕ). n ∷ prints_along sides behind (bit_and rows n) left) e
+      ∙ ap (λ (n : ℕ). 0 ∷ prints_along sides behind n left) (and_zero_r rows)
+      ∙ ap (λ (l : List ℕ). 0 ∷ l) (no_rows sides behind left ∙ ap (λ (n : ℕ). replicate n 0) (many (8 - (column + 1)) (column + 1)))
       ∙ ap (λ (n : ℕ). replicate n 0) one_less
     where
       behind : List (List ℕ)
       behind = prints_in words bounds (column + 1)
 
-      none : get_or bounds (column + 1) 0 - get_or bounds column 0 ≡ 0
-      none = omega arith
+      left : ℕ
+      left = (step_of sides (prints_in words bounds column) rows k).left
 
       one_less : suc (8 - (column + 1)) ≡ 8 - column
       one_less = omega arith
-
-      empty : (l : List ℕ) → length l ≡ 0 → l ≡ []
-      empty [] h = refl
-      empty (x ∷ l) h = absurd (omega arith)
 
       many : (n c : ℕ) → length (prints_from n words bounds c) ≡ n
       many zero c = refl

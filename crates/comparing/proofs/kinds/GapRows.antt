@@ -21,7 +21,7 @@ use Rattle.judging.proofs.RowSets.{below, none, all_of, joined, some-split}
 use Rattle.comparing.specs.Compared.{product}
 use Rattle.comparing.specs.Machinery.Kinds.{allowed_rows, is_gap_rows, count_of}
 use Rattle.comparing.specs.Machinery.Product.{print_of, prints_from, SidesOf}
-use Rattle.comparing.specs.declared.kinds.Sides.{Sides}
+use Rattle.comparing.specs.declared.sides.Sides.{Sides}
 use Rattle.comparing.proofs.Members.{some_same}
 use Rattle.comparing.proofs.kinds.Sums.{total-none, total-most}
 

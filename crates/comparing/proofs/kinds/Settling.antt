@@ -13,10 +13,11 @@ use lib.Seq.{get_or-set_same, get_or-set_other}
 use borrow.Author.Tests.{eqb-true, ltb-true, ltb-false}
 use Rattle.judging.specs.Machinery.Rows.{bit_of}
 use Rattle.comparing.specs.Compared.{product, most_kinds}
-use Rattle.comparing.specs.Machinery.Kinds.{is_gap_rows, total, count_of, meet_all, meet_of, is_settled, prints_between, prints_from, prints_in, Bounded, kinds_from, KindsAhead}
-use Rattle.comparing.specs.declared.kinds.Sides.{Sides}
+use Rattle.comparing.specs.Machinery.Kinds.{is_gap_rows, total, count_of, meet_all, meet_of, is_settled, prints_from, prints_in, Bounded, kinds_from, KindsAhead}
+use Rattle.comparing.specs.declared.kinds.Footprints.{Footprints}
+use Rattle.comparing.specs.declared.sides.Sides.{Sides}
 use Rattle.comparing.proofs.kinds.GapRows.{and-loses, no_gap, shortcut}
-use Rattle.comparing.proofs.kinds.KindsInWords.{prints-length, next-bound, prints-on}
+use Rattle.comparing.proofs.kinds.KindsInWords.{prints-length, next-bound, gaps_behind}
 
 -- rows that are in a meet of two sets are in both
 in-first : (rows x y : ℕ) → bit_and rows (bit_and x y) ≡ rows → bit_and rows x ≡ rows
@@ -103,6 +104,18 @@ kinds-ahead {words} {bounds} bounded told column low few =
     ∙ mod-eq_of_lt {n = kinds_from (8 - column) bounds column} (omega arith)
     ∙ all
 
+-- so what is counted at once for a footprint is the gaps behind it
+pub settled-gaps : (f : Footprints) (column rows print n : ℕ) → column < 8
+    → product (map length (prints_in f.words.now f.bounds (column + 1))) ≤ most_kinds
+    → n ≡ get_or f.kinds (column + 1) 0 * bit_of (is_gap_rows f.sides (bit_and rows print))
+    → is_settled f.sides (get_or f.meets (column + 1) 0) (bit_and rows print) ≡ true
+    → n ≡ gaps_behind f.sides f.words.now f.bounds column rows print
+settled-gaps f column rows print n low few is settled =
+    is
+    ∙ ap (λ (m : ℕ). m * bit_of (is_gap_rows f.sides (bit_and rows print))) (kinds-ahead f.bounded f.kinds_ahead (column + 1) (omega arith) few)
+    ∙ sym (settled-once f.sides (prints_in f.words.now f.bounds (column + 1)) (bit_and rows print) (get_or f.meets (column + 1) 0)
+    (f.meets_ahead.at (column + 1) (omega arith)) settled)
+
 -- a product of two numbers of 32 bits is a word
 pub product-fits : (count kinds : ℕ) → kinds < 2 ^ 32 → count % 2 ^ 32 * kinds < 2 ^ 64
 product-fits count kinds h =
@@ -140,14 +153,6 @@ right-more f found behind v some low right e =
     by c from to false past =
         let high = ltb-false c behind past in
         get_or-set_other found (behind - 1) c v 0 (λ w. omega arith) ∙ right.1 c high to
-
--- the rows that all footprints from a column on have, by those from the next one on
-pub meets-step : (words bounds : List ℕ) (column : ℕ) → column < 8
-    → meet_of (prints_in words bounds column)
-    ≡ meet_all (meet_of (prints_in words bounds (column + 1))) (prints_between words (get_or bounds column 0) (get_or bounds (column + 1) 0))
-meets-step words bounds column low =
-    ap meet_of (prints-on words bounds column low)
-    ∙ ap (λ (n : ℕ). meet_all (meet_of (prints_in words bounds (column + 1))) (prints_between words (get_or bounds column 0) n)) (sym (next-bound words bounds column low))
 
 -- the number of kinds from a column on, by that from the next one on
 abbrev pub kinds_on : List ℕ → ℕ → ℕ

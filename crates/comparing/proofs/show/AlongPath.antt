@@ -12,7 +12,7 @@ use Rattle.comparing.specs.Gaps.{FirstOf, IsGap}
 use Rattle.comparing.specs.Machinery.Kinds.{count_of, steps_to, left_of, path_of, prints_along}
 use Rattle.comparing.specs.Machinery.Product.{AllFirsts, print_of, prints_from, SidesOf, values_at, Inside}
 use Rattle.comparing.specs.Machinery.ShownValues.{FirstWith, prints_of, RequestWith}
-use Rattle.comparing.specs.declared.kinds.Sides.{Sides}
+use Rattle.comparing.specs.declared.sides.Sides.{Sides}
 use Rattle.comparing.proofs.Members.{in-at, mapped_at}
 use Rattle.comparing.proofs.kinds.Product.{firsts-length}
 use Rattle.comparing.proofs.kinds.Counting as counting

@@ -4,7 +4,7 @@ use Prim.Native.Nat.{ℕ, zero, suc, ◌+◌, ◌^◌, ◌≤◌, ◌<◌}
 use mathlib.Core.Path.{◌≡◌, refl, sym, ◌∙◌, ap, subst}
 use mathlib.Core.Bool.{Bool, true, false}
 use mathlib.Core.List.{List, [], ◌∷◌, ◌++◌}
-use mathlib.Core.Logic.{◌⊎◌, inl, inr}
+use mathlib.Core.Logic.{inl, inr}
 use native.Mathlib.Omega.{arith}
 use lib.Dec.{ltb}
 use lib.ListN.{length}
@@ -19,7 +19,7 @@ use Rattle.matching.proofs.States.{row-empty}
 use Rattle.matching.proofs.Columns.{same_row}
 use Rattle.judging.specs.Requests.{Value, absent, text, number}
 use Rattle.states.specs.Machinery.Rows.{most_states, row_at}
-use Rattle.states.specs.Machinery.Search.{Explored, Exceeded, string_of}
+use Rattle.states.specs.Machinery.Search.{Explored, FoundAll, string_of}
 use Rattle.columns.specs.Values.{values_in, sum_of, networks_in}
 use Rattle.columns.specs.Machinery.Edges.{next_edge}
 use Rattle.columns.specs.Machinery.Both.{Narrow}
@@ -30,8 +30,8 @@ use Rattle.comparing.specs.Gaps.{Alike}
 use Rattle.comparing.specs.Columns.{Few}
 use Rattle.comparing.specs.Compared.{bytes_in}
 use Rattle.comparing.specs.Machinery.Product.{print_of}
-use Rattle.comparing.specs.Machinery.ShownValues.{FirstWith, StartsAt, FoundState, LaidValue, Lays, LaysString, NoneBelow}
-use Rattle.std.specs.Prelude.{Option}
+use Rattle.comparing.specs.Machinery.ShownValues.{FirstWith, StartsAt, LowestState, FoundState, LaidValue, Lays, LaysString, NoneBelow}
+use Rattle.std.specs.Prelude.{Option, Some, None, IsSome}
 use Rattle.comparing.proofs.survey.Admitting.{needed, is-needed, optional, is-optional}
 use Rattle.comparing.proofs.survey.AllStates.{empty-alone, states-many}
 use Rattle.comparing.proofs.Deciding.{state-decides}
@@ -144,49 +144,48 @@ module _ (first second : List Statement) (column : ℕ) (few : length (codes_of 
   pub starts-low : from ≤ n
   starts-low = admits.enough
 
-  -- the lowest state that shows the footprint is there, and its string is the first value
-  pub string-found : (print : ℕ) (s : List ℕ) → FirstWith first second column print (text s) → (r : ℕ) → FoundState first second column words from n print r
-      → (r < n) × (string_of words r ≡ s)
-  string-found print s v r found = (there, by (before-total (text (string_of words r)) (text s)))
-    where
-      row : (i : ℕ) × (i < n) × (row_at words i ≡ row_of codes s)
-      row = reached codes words n e s (admits.bytes s v.least.ok)
+  module _ (print : ℕ) (s : List ℕ) (v : FirstWith first second column print (text s)) where
+    row : (i : ℕ) × (i < n) × (row_at words i ≡ row_of codes s)
+    row = reached codes words n e s (admits.bytes s v.least.ok)
 
-      shown : print_of first second column (text (string_of words row.0)) ≡ print
-      shown = sym (alike-printed first second column (text s) (text (string_of words row.0)) (row-alike s row.0 row.1 row.2)) ∙ v.printed
+    row-shown : print_of first second column (text (string_of words row.0)) ≡ print
+    row-shown = sym (alike-printed first second column (text s) (text (string_of words row.0)) (row-alike s row.0 row.1 row.2)) ∙ v.printed
 
-      no-later : r ≤ row.0
-      no-later = test (ltb row.0 r) refl
-        where
-          test : (t : Bool) → ltb row.0 r ≡ t → r ≤ row.0
-          test true h = absurd (found.before row.0 (admits.high s v.least.ok row.0 row.2) (ltb-true row.0 r h) shown)
-          test false h = ltb-false row.0 r h
+    -- some state shows the footprint
+    pub some-state : (r : Option ℕ) → FoundState first second column words from n print r → IsSome r
+    some-state (Some i) found = refl
+    some-state None none = absurd (none row.0 (admits.high s v.least.ok row.0 row.2) row.1 row-shown)
 
-      there : r < n
-      there = omega (arith, no-later, row.1)
+    -- and the string of the lowest one is the first value
+    pub string-found : (i : ℕ) → LowestState first second column words from n print i → string_of words i ≡ s
+    string-found i found = by (before-total (text (string_of words i)) (text s))
+      where
+        no-later : i ≤ row.0
+        no-later = test (ltb row.0 i) refl
+          where
+            test : (t : Bool) → ltb row.0 i ≡ t → i ≤ row.0
+            test true h = absurd (found.before row.0 (admits.high s v.least.ok row.0 row.2) (ltb-true row.0 i h) row-shown)
+            test false h = ltb-false row.0 i h
 
-      alike : Alike first second column (text (string_of words r)) (text s)
-      alike = printed-alike first second column (text (string_of words r)) (text s) (found.here there ∙ sym v.printed)
+        alike : Alike first second column (text (string_of words i)) (text s)
+        alike = printed-alike first second column (text (string_of words i)) (text s) (found.here ∙ sym v.printed)
 
-      by : Compares Before (text (string_of words r)) (text s) → string_of words r ≡ s
-      by (inl p) = absurd (v.least.least (text (string_of words r)) (admits.fits r found.low there) alike p)
-      by (inr (inl p)) = ap bytes_in p
-      by (inr (inr p)) =
-          absurd (string-behind codes words n e row.0 r row.1 no-later s (admits.bytes s v.least.ok) (sym row.2) p)
+        by : Compares Before (text (string_of words i)) (text s) → string_of words i ≡ s
+        by (inl p) = absurd (v.least.least (text (string_of words i)) (admits.fits i found.low found.high) alike p)
+        by (inr (inl p)) = ap bytes_in p
+        by (inr (inr p)) =
+            absurd (string-behind codes words n e row.0 i row.1 no-later s (admits.bytes s v.least.ok) (sym row.2) p)
 
   -- it has less than 512 bytes
   pub string-short : (r : ℕ) → r < n → length (string_of words r) ≤ 512
   string-short r there = omega (arith, (string-reaches codes words n _ e r there).2, e.few)
 
--- a column with few states was explored to the end
-pub explored-few : (first second : List Statement) (column : ℕ) → length (codes_of (values_in column (first ++ second))) ≤ most_states
-    → Few (values_in column (first ++ second)) → (words : List ℕ) (r : ℕ)
-    → ((r ≤ most_states) × Explored (codes_of (values_in column (first ++ second))) words r)
-    ⊎ ((r ≡ suc most_states) × Exceeded (codes_of (values_in column (first ++ second))) words)
-    → Explored (codes_of (values_in column (first ++ second))) words r
-explored-few first second column narrow few words r (inl h) = h.1
-explored-few first second column narrow few words r (inr h) =
-    absurd (few-or-many (values_in column (first ++ second)) few (states-many (values_in column (first ++ second)) narrow words h.1))
+-- the states of a column with few of them were all found
+pub few-found : (first second : List Statement) (column : ℕ) → length (codes_of (values_in column (first ++ second))) ≤ most_states
+    → Few (values_in column (first ++ second)) → (words : List ℕ) (r : Option ℕ) → FoundAll (codes_of (values_in column (first ++ second))) words r → IsSome r
+few-found first second column narrow few words (Some n) e = refl
+few-found first second column narrow few words None x =
+    absurd (few-or-many (values_in column (first ++ second)) few (states-many (values_in column (first ++ second)) narrow words x))
 
 module _ (first second : List Statement) where
   -- where a column must be there and nothing is listed, the first value is one byte 21

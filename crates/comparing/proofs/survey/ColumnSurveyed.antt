@@ -1,14 +1,9 @@
 -- One column: what its search says of its states, and its footprints behind those of the columns before it.
-use Prim.Native.Nat.{ℕ, suc, ◌≤◌, ◌<◌}
-use mathlib.Core.Path.{◌≡◌, ap, ◌∙◌}
-use mathlib.Core.List.{List, ◌++◌}
-use mathlib.Core.Logic.{◌⊎◌, inl, inr}
-use native.Mathlib.Omega.{arith}
-use lib.ListN.{length, take, drop}
+use Rattle.std.proofs.Common.{ℕ, ◌≤◌, ◌≡◌, ap, ◌∙◌, subst, List, ◌++◌, Some, None, arith, length, take, drop}
 use Rattle.stored.specs.Tables.{Statement}
 use Rattle.matching.specs.Machinery.Codes.{codes_of}
 use Rattle.states.specs.Machinery.Rows.{prints_at, most_states}
-use Rattle.states.specs.Machinery.Search.{Explored, Exceeded}
+use Rattle.states.specs.Machinery.Search.{FoundAll}
 use Rattle.columns.specs.Values.{values_in}
 use Rattle.columns.specs.Machinery.Both.{Narrow}
 use Rattle.columns.proofs.Widths.{codes-sum}
@@ -23,27 +18,17 @@ module _ (first second : List Statement) (column : ℕ) (before after : List ℕ
   codes-few = omega (arith, codes-sum (values_in column (first ++ second)), narrow)
 
   -- at most 512 states, and all of them
-  pub found-states : r.states ≤ most_states → HasStates first second column after r.states
-  found-states few = record { explored = by f.answer; narrow = narrow }
-    where
-      by : ((r.states ≤ most_states) × Explored (codes_of (values_in column (first ++ second))) after r.states)
-          ⊎ ((r.states ≡ suc most_states) × Exceeded (codes_of (values_in column (first ++ second))) after)
-          → Explored (codes_of (values_in column (first ++ second))) after r.states
-      by (inl h) = h.1
-      by (inr h) = let over = h.0 in absurd (omega arith)
+  pub found-states : (n : ℕ) → r.states ≡ Some n → HasStates first second column after n
+  found-states n is =
+      record { explored = subst (FoundAll (codes_of (values_in column (first ++ second))) after) is f.answer; narrow = narrow }
 
-  pub found-few : r.states ≤ most_states → Few (values_in column (first ++ second))
-  found-few few = states-few (values_in column (first ++ second)) codes-few after r.states (found-states few).explored
+  pub found-few : (n : ℕ) → r.states ≡ Some n → Few (values_in column (first ++ second))
+  found-few n is = states-few (values_in column (first ++ second)) codes-few after n (found-states n is).explored
 
   -- or more
-  pub found-many : most_states < r.states → TooMany (values_in column (first ++ second))
-  found-many many = by f.answer
-    where
-      by : ((r.states ≤ most_states) × Explored (codes_of (values_in column (first ++ second))) after r.states)
-          ⊎ ((r.states ≡ suc most_states) × Exceeded (codes_of (values_in column (first ++ second))) after)
-          → TooMany (values_in column (first ++ second))
-      by (inl h) = let few = h.0 in absurd (omega arith)
-      by (inr h) = states-many (values_in column (first ++ second)) codes-few after h.1
+  pub found-many : r.states ≡ None → TooMany (values_in column (first ++ second))
+  found-many is =
+      states-many (values_in column (first ++ second)) codes-few after (subst (FoundAll (codes_of (values_in column (first ++ second))) after) is f.answer)
 
 -- a search before the footprints are laid down does not touch those of other columns
 pub gathered-behind : (first second : List Statement) (column : ℕ) (before middle after : List ℕ) (from to : ℕ)

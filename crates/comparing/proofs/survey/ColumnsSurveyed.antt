@@ -1,19 +1,14 @@
 -- The columns one after the other: a list of first values for each of those so far, their product as far as it is counted, and their
 -- footprints in the workspace as long as there are not too many kinds.
-use Prim.Native.Nat.{ℕ, zero, suc, ◌+◌, ◌-◌, ◌*◌, ◌≤◌, ◌<◌, min}
-use mathlib.Core.Path.{◌≡◌, refl, sym, ap, ap₂, ◌∙◌, subst}
-use mathlib.Core.Bool.{Bool, true, false}
-use mathlib.Core.List.{List, [], ◌∷◌, ◌++◌, map}
-use native.Mathlib.Nat.{mul_assoc, mul-le-mul_left}
-use native.Mathlib.Omega.{arith}
-use lib.Dec.{ltb}
-use lib.ListN.{length, get_or, take, drop, set, length-set}
-use lib.Seq.{get_or-set_same, get_or-set_other, drop-drop}
+use Rattle.std.proofs.Common.{ℕ, zero, suc, ◌+◌, ◌-◌, ◌*◌, ◌≤◌, ◌<◌, min, ◌≡◌, refl, sym, ap, ap₂, ◌∙◌, subst, inr, Bool, true, false, List, [], ◌∷◌, ◌++◌, map, arith, ltb, length, get_or, take, drop, set, get_or-set_same, get_or-set_other}
+use Rattle.std.proofs.Math.Nat.{mul_assoc, mul-le-mul_left}
+use Rattle.std.proofs.Math.ListN.{length-set}
+use Rattle.std.proofs.Math.Seq.{drop-drop}
 use borrow.Author.Tests.{lt-ltb, le-ltb, ltb-true, ltb-false}
 use Rattle.stored.specs.Choice.{pick}
 use Rattle.stored.specs.Tables.{Statement}
 use Rattle.judging.specs.Requests.{Value}
-use Rattle.comparing.specs.Compared.{product, most_kinds}
+use Rattle.comparing.specs.Compared.{Uncrowded, product, most_kinds}
 use Rattle.comparing.specs.Machinery.Kinds as kinds
 use Rattle.states.specs.Machinery.Rows.{prints_at}
 use Rattle.comparing.specs.Machinery.Kinds.{column_prints}
@@ -21,6 +16,9 @@ use Rattle.states.proofs.Parts.{part-kept}
 use Rattle.states.proofs.Below.{below_next}
 use Rattle.comparing.specs.Machinery.Product.{Firsts, AllFirsts, print_of, prints_from}
 use Rattle.comparing.specs.Machinery.Survey.{prints_between, FewIn, Gathered, Listed}
+use Rattle.comparing.specs.Answers.{Counting as C}
+use Rattle.comparing.specs.Machinery.Refusing.{RefusesStates}
+use Rattle.comparing.proofs.kinds.Product.{counts-from}
 use Rattle.comparing.proofs.survey.Room.{Room, room-start, room-more, room_fits}
 
 -- a property of each list, from a column up to another
@@ -221,23 +219,30 @@ module _ (first second : List Statement) where
   all-prints words bounds (suc n) column (l ∷ lists) e a =
       ap₂ ◌∷◌ a.0 (all-prints words bounds n (suc column) lists (omega arith) a.1)
 
-  -- all eight
-  pub columns-end : (words bounds : List ℕ) (from count : ℕ) → ColumnsUpto first second words bounds from count 8
-      → Listed first second words bounds (ltb most_kinds count)
-  columns-end words bounds from count u =
-      record {
-        uncrowded = λ d h. u.few d (omega arith) h;
-        lists = u.lists;
-        firsts = all_firsts 0 u.lists u.firsts;
-        passed = by (ltb most_kinds (product (map length u.lists))) refl;
-        bounded = λ e. record { ascends = λ d h. (u.ascends d h).0; within = omega (arith, u.next, u.within) };
-        prints = λ e. all-prints words bounds 8 0 u.lists refl (u.prints (ltb-false most_kinds count e));
-      }
-    where
-      by : (t : Bool) → ltb most_kinds (product (map length u.lists)) ≡ t → ltb most_kinds count ≡ ltb most_kinds (product (map length u.lists))
-      by true e =
-          let over = ltb-true most_kinds (product (map length u.lists)) e in
-          lt-ltb most_kinds count (omega (arith, u.counted)) ∙ sym e
-      by false e =
-          let under = ltb-false most_kinds (product (map length u.lists)) e in
-          le-ltb most_kinds count (omega (arith, u.counted)) ∙ sym e
+  -- all eight, and not too many kinds
+  module _ (words bounds : List ℕ) (from count : ℕ) (u : ColumnsUpto first second words bounds from count 8) where
+    uncrowded : Uncrowded (first ++ second)
+    uncrowded d h = u.few d (omega arith) h
+
+    pub columns-end : count ≤ most_kinds → Listed first second words bounds
+    columns-end few =
+        record {
+          uncrowded = uncrowded;
+          lists = u.lists;
+          firsts = all_firsts 0 u.lists u.firsts;
+          few = omega (arith, u.counted);
+          bounded = record { ascends = λ d h. (u.ascends d h).0; within = omega (arith, u.next, u.within) };
+          prints = all-prints words bounds 8 0 u.lists refl (u.prints few);
+        }
+
+    -- or too many
+    pub columns-over : most_kinds < count → RefusesStates first second (C.Refused 12 0 0)
+    columns-over many =
+        inr (
+          uncrowded,
+          (
+            map length u.lists,
+            counts-from first second 0 u.lists (all_firsts 0 u.lists u.firsts),
+            rw (lt-ltb most_kinds (product (map length u.lists)) (omega (arith, u.counted))) refl,
+          ),
+        )

@@ -1,11 +1,11 @@
 -- What the functions that count and find gaps promise each other: gaps as sets of rows, column by column. Row i of both tables is
 -- bit i, the first table's rows below the second's.
-use Rattle.std.specs.Prelude.{ℕ, zero, suc, ◌+◌, ◌-◌, ◌*◌, ◌/◌, ◌%◌, ◌^◌, ◌≤◌, ◌<◌, ◌≡◌, Bool, not, ◌&&◌, ◌||◌, List, [], ◌∷◌, eqb, ltb, length, get_or, take, drop}
+use Rattle.std.specs.Prelude.{ℕ, zero, suc, ◌+◌, ◌-◌, ◌*◌, ◌/◌, ◌%◌, ◌^◌, ◌≤◌, ◌<◌, ◌≡◌, Bool, not, ◌&&◌, ◌||◌, List, [], ◌∷◌, eqb, ltb, length, get_or, take, drop, fold}
 use Rattle.std.specs.Int.Bits.{bit_and}
 use Rattle.stored.specs.Choice.{pick}
 use Rattle.judging.specs.Machinery.Rows.{bit_of}
 use Rattle.states.specs.Machinery.Rows.{prints_at}
-use Rattle.comparing.specs.declared.kinds.Sides.{Sides}
+use Rattle.comparing.specs.declared.sides.Sides.{Sides}
 use Rattle.comparing.specs.declared.kinds.Step.{Step}
 
 -- all rows that apply allow, and there are some
@@ -86,8 +86,7 @@ pub record Bounded (words bounds : List ℕ) : Type 0 where
 
 -- the rows of a set that some footprints all have too
 abbrev pub meet_all : ℕ → List ℕ → ℕ
-meet_all rows [] = rows
-meet_all rows (f ∷ prints) = meet_all (bit_and rows f) prints
+meet_all rows prints = fold bit_and rows prints
 
 -- the rows that all footprints of some columns have
 abbrev pub meet_of : List (List ℕ) → ℕ

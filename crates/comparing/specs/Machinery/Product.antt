@@ -9,7 +9,7 @@ use Rattle.judging.specs.Machinery.Rows.{rows_word}
 use Rattle.comparing.specs.Order.{Before, In, Ascending}
 use Rattle.comparing.specs.Requests.{Admitted}
 use Rattle.comparing.specs.Gaps.{Alike, FirstOf}
-use Rattle.comparing.specs.declared.kinds.Sides.{Sides}
+use Rattle.comparing.specs.declared.sides.Sides.{Sides}
 
 -- a list has the first values of a column, in order, and all of them
 pub record Firsts (first second : List Statement) (column : ℕ) (list : List Value) : Type 0 where

@@ -1,6 +1,6 @@
 -- What the functions that show a gap promise each other: in each column the first value that has the gap's footprint, laid down in its
 -- place in the value buffer.
-use Rattle.std.specs.Prelude.{ℕ, suc, ◌*◌, ◌≤◌, ◌<◌, ◌≡◌, List, [], ◌∷◌, ◌++◌, Option, is_some, unwrap_or, ltb, length, drop}
+use Rattle.std.specs.Prelude.{ℕ, suc, ◌*◌, ◌≤◌, ◌<◌, ◌≡◌, List, [], ◌∷◌, ◌++◌, Option, Some, None, is_some, unwrap_or, ltb, length, drop}
 use Rattle.std.proofs.lemmas.List.Edits.{sets}
 use Rattle.stored.specs.Choice.{pick}
 use Rattle.stored.specs.Tables.{Statement}
@@ -23,12 +23,18 @@ pub record FirstWith (first second : List Statement) (column print : ℕ) (v : V
 abbrev pub StartsAt : List Statement → ℕ → ℕ → Type 0
 StartsAt rows column from = pick (ltb column 3) ((from ≡ 1) × (0 < sum_of (values_in column rows))) (from ≡ 0)
 
--- r is the lowest of the states from one on whose string has a footprint, or the number of states
-pub record FoundState (first second : List Statement) (column : ℕ) (words : List ℕ) (from states print r : ℕ) : Type 0 where
-  pub low : from ≤ r
-  pub high : r ≤ states
-  pub here : r < states → print_of first second column (text (string_of words r)) ≡ print
-  pub before : (j : ℕ) → from ≤ j → j < r → print_of first second column (text (string_of words j)) ≡ print → ⊥
+-- i is the lowest of the states from one on whose string has a footprint
+pub record LowestState (first second : List Statement) (column : ℕ) (words : List ℕ) (from states print i : ℕ) : Type 0 where
+  pub low : from ≤ i
+  pub high : i < states
+  pub here : print_of first second column (text (string_of words i)) ≡ print
+  pub before : (j : ℕ) → from ≤ j → j < i → print_of first second column (text (string_of words j)) ≡ print → ⊥
+
+-- the lowest state that was found, or that there is none
+abbrev pub FoundState : List Statement → List Statement → ℕ → List ℕ → ℕ → ℕ → ℕ → Option ℕ → Type 0
+FoundState first second column words from states print (Some i) = LowestState first second column words from states print i
+FoundState first second column words from states print None =
+    (j : ℕ) → from ≤ j → j < states → print_of first second column (text (string_of words j)) ≡ print → ⊥
 
 -- a value was laid down in its 512 bytes
 pub record LaidValue (column : ℕ) (before after : List ℕ) (r : Option ℕ) (v : Value) : Type 0 where

@@ -1,24 +1,24 @@
 -- What the functions that survey the columns promise each other: of each column, the first values that show its footprints, and these
 -- footprints as words in the workspace.
-use Rattle.std.specs.Prelude.{ℕ, suc, ◌+◌, ◌≤◌, ◌<◌, ◌≡◌, Bool, false, List, [], ◌∷◌, ◌++◌, map, ◌⊎◌, eqb, ltb, length, take, drop}
+use Rattle.std.specs.Prelude.{ℕ, suc, ◌+◌, ◌≤◌, ◌<◌, ◌≡◌, List, [], ◌∷◌, ◌++◌, map, Option, Some, None, Result, Ok, Err, eqb, length, take, drop}
 use Rattle.stored.specs.Choice.{pick, some}
 use Rattle.stored.specs.Tables.{Statement}
 use Rattle.matching.specs.Machinery.Codes.{codes_of}
-use Rattle.judging.specs.Requests.{Value}
+use Rattle.judging.specs.Requests.{Value, columns}
 use Rattle.columns.specs.Values.{values_in, sum_of}
 use Rattle.comparing.specs.Columns.{Few, TooMany}
-use Rattle.comparing.specs.Compared.{Crowded, Uncrowded, product, most_kinds}
+use Rattle.comparing.specs.Compared.{first_wide, Uncrowded, product, most_kinds}
 pub use Rattle.comparing.specs.Machinery.Kinds.{prints_between}
-use Rattle.states.specs.Machinery.Rows.{prints_at, most_states}
+use Rattle.states.specs.Machinery.Rows.{prints_at}
 use Rattle.comparing.specs.Machinery.Kinds.{prints_in, Bounded}
-use Rattle.states.specs.Machinery.Search.{Explored, Exceeded}
+use Rattle.states.specs.Machinery.Search.{Explored, FoundAll}
 use Rattle.columns.specs.Machinery.Both.{Narrow, FewNetworks}
 use Rattle.comparing.specs.Machinery.Product.{Firsts, AllFirsts, print_of, prints_from}
 use Rattle.comparing.specs.Machinery.Adding.{text_at, adding_rows}
-use Rattle.comparing.specs.declared.survey.Column.{Column}
-use Rattle.comparing.specs.declared.survey.Column.TheVariants as C
+use Rattle.comparing.specs.Answers.{as_counting}
+use Rattle.comparing.specs.Machinery.Refusing.{RefusesStates, RefusesWidths}
+use Rattle.comparing.specs.declared.answers.Refused.{Refused as Refusal}
 use Rattle.comparing.specs.declared.survey.States.{States}
-use Rattle.comparing.specs.declared.survey.AllColumns.{AllColumns}
 
 -- the workspace has room for the footprints of one column more
 pub record HasRoom (words : List ℕ) (from : ℕ) : Type 0 where
@@ -72,9 +72,7 @@ pub record Gathered (first second : List Statement) (column : ℕ) (before after
 pub record FoundStates (first second : List Statement) (column : ℕ) (before after : List ℕ) (r : States) : Type 0 where
   pub mine : r.own ≡ sum_of (values_in column first)
   pub all : r.positions ≡ sum_of (values_in column (first ++ second))
-  pub answer :
-      ((r.states ≤ most_states) × Explored (codes_of (values_in column (first ++ second))) after r.states)
-      ⊎ ((r.states ≡ suc most_states) × Exceeded (codes_of (values_in column (first ++ second))) after)
+  pub answer : FoundAll (codes_of (values_in column (first ++ second))) after r.states
   pub kept : drop prints_at after ≡ drop prints_at before
   pub same : length after ≡ length before
 
@@ -83,12 +81,12 @@ abbrev pub FewIn : List Statement → ℕ → Type 0
 FewIn rows column = column < 7 → Few (values_in column rows)
 
 -- one column was surveyed
-abbrev pub SurveyedColumn : List Statement → List Statement → ℕ → List ℕ → List ℕ → ℕ → Column → Type 0
-SurveyedColumn first second column before after from C.Crowded =
+abbrev pub SurveyedColumn : List Statement → List Statement → ℕ → List ℕ → List ℕ → ℕ → Option ℕ → Type 0
+SurveyedColumn first second column before after from None =
     (column < 7)
     × TooMany (values_in column (first ++ second))
     × (length after ≡ length before)
-SurveyedColumn first second column before after from (C.Within to) =
+SurveyedColumn first second column before after from (Some to) =
     FewIn (first ++ second) column × Gathered first second column before after from to
 
 -- refusal 10 is given for no column, and the workspace is large enough
@@ -97,18 +95,22 @@ pub record Surveyable (rows : List Statement) (words : List ℕ) : Type 0 where
   pub networks : FewNetworks rows
   pub room : 8192 ≤ length words
 
--- all columns were surveyed: the lowest crowded one, or the first values of all; where their product is within the limit, their
--- footprints are in the workspace
-pub record Listed (first second : List Statement) (words bounds : List ℕ) (over : Bool) : Type 0 where
+-- all columns were surveyed: none is crowded, the product of the numbers of first values is within the limit, and their footprints are in
+-- the workspace
+pub record Listed (first second : List Statement) (words bounds : List ℕ) : Type 0 where
   pub uncrowded : Uncrowded (first ++ second)
   pub lists : List (List Value)
   pub firsts : AllFirsts first second 0 lists
-  pub passed : over ≡ ltb most_kinds (product (map length lists))
-  pub bounded : over ≡ false → Bounded words bounds
-  pub prints : over ≡ false → prints_in words bounds 0 ≡ prints_from first second 0 lists
+  pub few : product (map length lists) ≤ most_kinds
+  pub bounded : Bounded words bounds
+  pub prints : prints_in words bounds 0 ≡ prints_from first second 0 lists
 
-abbrev pub Surveyed : List Statement → List Statement → List ℕ → AllColumns → Type 0
-Surveyed first second words found =
-    pick found.crowded
-    (Crowded (first ++ second) found.column)
-    (Listed first second words found.bounds found.over)
+-- where the footprints of each column begin and end, or the refusal that is given for the states and kinds of the tables
+abbrev pub Surveyed : List Statement → List Statement → List ℕ → Result (List ℕ) Refusal → Type 0
+Surveyed first second words (Ok bounds) = Listed first second words bounds
+Surveyed first second words (Err r) = RefusesStates first second (as_counting (Err r))
+
+-- the same, or a refusal for the widths of the tables before it
+abbrev pub SurveyedBoth : List Statement → List Statement → List ℕ → Result (List ℕ) Refusal → Type 0
+SurveyedBoth first second words (Ok bounds) = (columns ≤ first_wide (first ++ second)) × Listed first second words bounds
+SurveyedBoth first second words (Err r) = RefusesWidths first second (as_counting (Err r))

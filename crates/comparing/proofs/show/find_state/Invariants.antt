@@ -1,5 +1,5 @@
 -- None of the states before the one at hand has the footprint: that is the invariant.
-use Prim.Native.Nat.{ℕ, ◌-◌, ◌≤◌, ◌<◌}
+use Prim.Native.Nat.{ℕ, ◌≤◌, ◌<◌}
 use mathlib.Core.Path.{◌≡◌}
 use Rattle.judging.specs.Requests.{text}
 use Rattle.judging.specs.Judging.{rows_of}
@@ -9,8 +9,4 @@ use Rattle.comparing.proofs.show.find_state.Given as goal
 
 abbrev pub invariant-loop-i : goal.invariant-loop-i
 invariant-loop-i l =
-    (l.from ≤ l.i) × (l.i ≤ l.states)
-    × ((j : ℕ) → l.from ≤ j → j < l.i → print_of (rows_of l.first) (rows_of l.second) l.column (text (string_of l.words j)) ≡ l.print → ⊥)
-
-abbrev pub decreases-loop-i : goal.decreases-loop-i
-decreases-loop-i l = l.states - l.i
+    (j : ℕ) → l.from ≤ j → j < l.i → print_of (rows_of l.tables.first.now) (rows_of l.tables.second.now) l.column (text (string_of l.words j)) ≡ l.print → ⊥

@@ -12,48 +12,48 @@ use Rattle.comparing.proofs.show.FirstFound.{absence-found, address-found, none_
 use Rattle.comparing.proofs.show.show_address.Goals as goal
 
 pub absent_print-requires : goal.absent_print-requires
-absent_print-requires c = let read = c.requires.0 in (read.few, read.more, read.rows)
+absent_print-requires c = let read = c.args.tables.both_read in (read.few, read.more, read.rows)
 
 pub returns-then-absent_print-print : goal.returns-then-absent_print-print
 returns-then-absent_print-print c =
     let a = c.args in
     λ v w.
-    let e = absence-found (rows_of a.first.now) (rows_of a.second.now) 7 a.print (omega arith) (sym c.absent_print.ensures ∙ c.if-absent_print-print.true) v w in
+    let e = absence-found (rows_of a.tables.first.now) (rows_of a.tables.second.now) 7 a.print (omega arith) (sym c.absent_print.ensures ∙ c.if-absent_print-print.true) v w in
     (ap is_present (sym e), ap address_in (sym e))
 
 pub loop-x-init : goal.loop-x-init
 loop-x-init c = (omega arith, λ h. c.if-absent_print-print.false (c.absent_print.ensures ∙ h), λ m low. absurd (omega arith))
 
 pub address_print-requires : goal.address_print-requires
-address_print-requires c = (c.requires.0, c.requires.1, c.requires.2)
+address_print-requires c = (c.requires.0, c.requires.1)
 
 pub returns-then-address_print-print : goal.returns-then-address_print-print
 returns-then-address_print-print c =
     let a = c.args in
     let l = c.loop-x in
     λ v w.
-    let e = address-found (rows_of a.first.now) (rows_of a.second.now) a.print l.x c.loop-x-test.true l.invariant.2 (sym c.address_print.ensures ∙ c.if-address_print-print.true) l.invariant.1 v w in
+    let e = address-found (rows_of a.tables.first.now) (rows_of a.tables.second.now) a.print l.x c.loop-x-test.true l.invariant.2 (sym c.address_print.ensures ∙ c.if-address_print-print.true) l.invariant.1 v w in
     (ap is_present (sym e), ap address_in (sym e))
 
 pub next_edge-x-requires : goal.next_edge-x-requires
-next_edge-x-requires c = (c.requires.0.one, c.requires.0.two, c.requires.1, c.requires.2)
+next_edge-x-requires c = (c.args.tables.both_read.one, c.args.tables.both_read.two, c.requires.0, c.requires.1)
 
 pub loop-x-smaller : goal.loop-x-smaller
 loop-x-smaller c =
     let a = c.args in
     let l = c.loop-x in
     let low = c.loop-x-test.true in
-    omega (arith, low, c.next_edge-x.ensures, next-edge-above (networks_in (rows_of a.first.now ++ rows_of a.second.now)) l.x low)
+    omega (arith, low, c.next_edge-x.ensures, next-edge-above (networks_in (rows_of a.tables.first.now ++ rows_of a.tables.second.now)) l.x low)
 
 pub loop-x-preserved : goal.loop-x-preserved
 loop-x-preserved c =
     let a = c.args in
     let l = c.loop-x in
     let edge = c.next_edge-x.ensures in (
-      omega (arith, edge, edge-high (networks_in (rows_of a.first.now ++ rows_of a.second.now)) l.x),
+      omega (arith, edge, edge-high (networks_in (rows_of a.tables.first.now ++ rows_of a.tables.second.now)) l.x),
       l.invariant.1,
-      subst (λ (x : ℕ). NoneBelow (rows_of a.first.now) (rows_of a.second.now) a.print x) (sym edge)
-          (none_more (rows_of a.first.now) (rows_of a.second.now) a.print l.x l.invariant.2 (λ shown. c.if-address_print-print.false (c.address_print.ensures ∙ shown))),
+      subst (λ (x : ℕ). NoneBelow (rows_of a.tables.first.now) (rows_of a.tables.second.now) a.print x) (sym edge)
+          (none_more (rows_of a.tables.first.now) (rows_of a.tables.second.now) a.print l.x l.invariant.2 (λ shown. c.if-address_print-print.false (c.address_print.ensures ∙ shown))),
     )
 
 pub returns : goal.returns
@@ -61,4 +61,4 @@ returns c =
     let a = c.args in
     let l = c.loop-x in
     let all : l.x ≡ 2 ^ 32 = omega (arith, l.invariant.0) in
-    λ v w. absurd (none_found (rows_of a.first.now) (rows_of a.second.now) a.print (subst (λ (x : ℕ). NoneBelow (rows_of a.first.now) (rows_of a.second.now) a.print x) all l.invariant.2) l.invariant.1 v w)
+    λ v w. absurd (none_found (rows_of a.tables.first.now) (rows_of a.tables.second.now) a.print (subst (λ (x : ℕ). NoneBelow (rows_of a.tables.first.now) (rows_of a.tables.second.now) a.print x) all l.invariant.2) l.invariant.1 v w)

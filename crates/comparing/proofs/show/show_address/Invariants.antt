@@ -10,7 +10,7 @@ use Rattle.comparing.proofs.show.show_address.Given as goal
 
 abbrev pub invariant-loop-x : goal.invariant-loop-x
 invariant-loop-x l =
-    (l.x ≤ 2 ^ 32) × (print_of (rows_of l.first) (rows_of l.second) 7 absent ≡ l.print → ⊥) × NoneBelow (rows_of l.first) (rows_of l.second) l.print l.x
+    (l.x ≤ 2 ^ 32) × (print_of (rows_of l.tables.first.now) (rows_of l.tables.second.now) 7 absent ≡ l.print → ⊥) × NoneBelow (rows_of l.tables.first.now) (rows_of l.tables.second.now) l.print l.x
 
 abbrev pub decreases-loop-x : goal.decreases-loop-x
 decreases-loop-x l = 2 ^ 32 - l.x

@@ -25,8 +25,6 @@ pub loop-i-init : goal.loop-i-init
 loop-i-init c =
     let a = c.args in (
       omega arith,
-      c.requires.2,
-      omega arith,
       omega arith,
       refl,
       refl,
@@ -34,30 +32,29 @@ loop-i-init c =
           h
           ∙ ap
           (λ (n : ℕ).
-          map (print_at (rows_of a.first.now) (rows_of a.second.now) a.column a.words.now)
-          (adding_rows (print_at (rows_of a.first.now) (rows_of a.second.now) a.column a.words.now) found a.row n))
+          map (print_at (rows_of a.tables.first.now) (rows_of a.tables.second.now) a.column a.words.now)
+          (adding_rows (print_at (rows_of a.tables.first.now) (rows_of a.tables.second.now) a.column a.words.now) found a.row n))
           {x = 0} {y = a.row - a.row} (omega arith),
     )
 
 pub row_at-state-requires : goal.row_at-state-requires
 row_at-state-requires c =
-    let few = c.requires.1.explored.few in
-    let room = c.requires.4 in
+    let few = c.requires.0.explored.few in
+    let room = c.requires.3 in
     omega arith
 
 pub state_print-print-requires : goal.state_print-print-requires
 state_print-print-requires c =
     let l = c.loop-i in
     let a = c.args in
-    let few = c.requires.1.explored.few in
-    let same = front_kept l.words a.words.now (prints_at + a.start) prints_at l.invariant.5 (omega arith) in (
-      c.requires.0,
-      prepared-stays a.first.now a.second.now a.column a.words.now l.words a.prints same c.requires.5,
-      omega (arith, c.requires.4, l.invariant.4),
-      c.requires.1.narrow,
+    let few = c.requires.0.explored.few in
+    let same = front_kept l.words a.words.now (prints_at + a.start) prints_at l.invariant.3 (omega arith) in (
+      prepared-stays a.tables.first.now a.tables.second.now a.column a.words.now l.words a.prints same c.requires.4,
+      omega (arith, c.requires.3, l.invariant.2),
+      c.requires.0.narrow,
       (
         string_of a.words.now l.i,
-        (string-reaches (codes_of (values_in a.column (rows_of a.first.now ++ rows_of a.second.now))) a.words.now a.states _ c.requires.1.explored l.i (omega arith)).0
+        (string-reaches (codes_of (values_in a.column (rows_of a.tables.first.now ++ rows_of a.tables.second.now))) a.words.now a.states _ c.requires.0.explored l.i (omega arith)).0
             ∙ sym
             (c.row_at-state.ensures
             ∙ row_stays a.words.now l.words (front_kept l.words a.words.now prints_at codes_at same (omega arith)) l.i (omega arith)),
@@ -67,41 +64,33 @@ state_print-print-requires c =
 pub add_print-to-requires : goal.add_print-to-requires
 add_print-to-requires c =
     let l = c.loop-i in
-    (omega (arith, c.requires.3, l.invariant.2), omega (arith, c.requires.4, l.invariant.3, l.invariant.4))
-
-pub overflow_add-i : goal.overflow_add-i
-overflow_add-i c = omega (arith, c.requires.1.explored.few)
-
-pub loop-i-smaller : goal.loop-i-smaller
-loop-i-smaller c = omega arith
+    (omega (arith, c.requires.2, l.invariant.0), omega (arith, c.requires.3, l.invariant.1, l.invariant.2))
 
 pub loop-i-preserved : goal.loop-i-preserved
 loop-i-preserved c =
     let l = c.loop-i in
     let a = c.args in
     let low : l.i < a.states = omega arith in
-    let few = c.requires.1.explored.few in
+    let few = c.requires.0.explored.few in
     let row =
     c.row_at-state.ensures
-    ∙ row_stays a.words.now l.words (front_kept l.words a.words.now (prints_at + a.start) codes_at l.invariant.5 (omega arith)) l.i (omega arith) in
+    ∙ row_stays a.words.now l.words (front_kept l.words a.words.now (prints_at + a.start) codes_at l.invariant.3 (omega arith)) l.i (omega arith) in
     let is =
     c.state_print-print.ensures (string_of a.words.now l.i)
-    ((string-reaches (codes_of (values_in a.column (rows_of a.first.now ++ rows_of a.second.now))) a.words.now a.states _ c.requires.1.explored l.i low).0 ∙ sym row)
-    ∙ ap (λ (t : Bool). print_of (rows_of a.first.now) (rows_of a.second.now) a.column (pick t absent (text (string_of a.words.now l.i))))
+    ((string-reaches (codes_of (values_in a.column (rows_of a.tables.first.now ++ rows_of a.tables.second.now))) a.words.now a.states _ c.requires.0.explored l.i low).0 ∙ sym row)
+    ∙ ap (λ (t : Bool). print_of (rows_of a.tables.first.now) (rows_of a.tables.second.now) a.column (pick t absent (text (string_of a.words.now l.i))))
     (sym (ne_eqb l.i most_states (λ w. omega arith))) in (
-      omega arith,
-      omega arith,
       omega (arith, c.add_print-to.ensures.low),
       omega (arith, c.add_print-to.ensures.high),
-      c.add_print-to.ensures.same ∙ l.invariant.4,
-      front_kept c.add_print-to.new.words l.words (prints_at + l.to) (prints_at + a.start) c.add_print-to.ensures.kept (omega arith) ∙ l.invariant.5,
+      c.add_print-to.ensures.same ∙ l.invariant.2,
+      front_kept c.add_print-to.new.words l.words (prints_at + l.to) (prints_at + a.start) c.add_print-to.ensures.kept (omega arith) ∙ l.invariant.3,
       λ found e.
-          row-added (print_at (rows_of a.first.now) (rows_of a.second.now) a.column a.words.now) l.words c.add_print-to.new.words
-          a.from l.to c.add_print-to.result a.row l.i c.state_print-print.result found l.invariant.0 is (l.invariant.6 found e) c.add_print-to.ensures,
+          row-added (print_at (rows_of a.tables.first.now) (rows_of a.tables.second.now) a.column a.words.now) l.words c.add_print-to.new.words
+          a.from l.to c.add_print-to.result a.row l.i c.state_print-print.result found (omega arith) is (l.invariant.4 found e) c.add_print-to.ensures,
     )
 
 pub shape_of-words : goal.shape_of-words
-shape_of-words c = c.loop-i.invariant.4
+shape_of-words c = c.loop-i.invariant.2
 
 pub returns : goal.returns
 returns c =
@@ -110,14 +99,14 @@ returns c =
     let all : l.i ≡ a.states = omega arith in
     record {
       prints = λ found e.
-          l.invariant.6 found e
+          l.invariant.4 found e
           ∙ ap
           (λ (i : ℕ).
-          map (print_at (rows_of a.first.now) (rows_of a.second.now) a.column a.words.now)
-          (adding_rows (print_at (rows_of a.first.now) (rows_of a.second.now) a.column a.words.now) found a.row (i - a.row)))
+          map (print_at (rows_of a.tables.first.now) (rows_of a.tables.second.now) a.column a.words.now)
+          (adding_rows (print_at (rows_of a.tables.first.now) (rows_of a.tables.second.now) a.column a.words.now) found a.row (i - a.row)))
           all;
-      low = l.invariant.2;
-      high = omega (arith, l.invariant.3);
-      kept = l.invariant.5;
-      same = l.invariant.4;
+      low = l.invariant.0;
+      high = omega (arith, l.invariant.1);
+      kept = l.invariant.3;
+      same = l.invariant.2;
     }

@@ -11,11 +11,8 @@ use Rattle.comparing.proofs.survey.gather_rows.Given as goal
 
 abbrev pub invariant-loop-i : goal.invariant-loop-i
 invariant-loop-i l =
-    (l.row ≤ l.i) × (l.i ≤ l.states) × (l.start ≤ l.to) × (l.to ≤ l.start + (l.i - l.row)) × (length l.words ≡ length l.initial.words)
+    (l.start ≤ l.to) × (l.to ≤ l.start + (l.i - l.row)) × (length l.words ≡ length l.initial.words)
     × (take (prints_at + l.start) l.words ≡ take (prints_at + l.start) l.initial.words)
-    × ((found : List ℕ) → prints_between l.initial.words l.from l.start ≡ map (print_at (rows_of l.first) (rows_of l.second) l.column l.initial.words) found
+    × ((found : List ℕ) → prints_between l.initial.words l.from l.start ≡ map (print_at (rows_of l.tables.first.now) (rows_of l.tables.second.now) l.column l.initial.words) found
     → prints_between l.words l.from l.to
-    ≡ map (print_at (rows_of l.first) (rows_of l.second) l.column l.initial.words) (adding_rows (print_at (rows_of l.first) (rows_of l.second) l.column l.initial.words) found l.row (l.i - l.row)))
-
-abbrev pub decreases-loop-i : goal.decreases-loop-i
-decreases-loop-i l = l.states - l.i
+    ≡ map (print_at (rows_of l.tables.first.now) (rows_of l.tables.second.now) l.column l.initial.words) (adding_rows (print_at (rows_of l.tables.first.now) (rows_of l.tables.second.now) l.column l.initial.words) found l.row (l.i - l.row)))

@@ -7,7 +7,7 @@ use Rattle.judging.specs.Judging.{rows_of}
 use Rattle.columns.specs.Machinery.Plan.{HasPlans}
 use Rattle.columns.proofs.PlansLaid.{texts-fit, addresses-fit}
 use Rattle.columns.proofs.Widths.{sum_both}
-use Rattle.comparing.specs.Machinery.Survey.{Gathered}
+use Rattle.comparing.specs.Machinery.Survey.{SurveyedColumn, Gathered}
 use Rattle.comparing.proofs.survey.ColumnSurveyed.{found-states, found-few, found-many, gathered-behind}
 use Rattle.comparing.proofs.survey.StatesKept.{states-kept}
 use Rattle.comparing.proofs.survey.survey_column.Goals as goal
@@ -15,12 +15,12 @@ use Rattle.comparing.proofs.survey.survey_column.Goals as goal
 pub lay_plans-networks-requires : goal.lay_plans-networks-requires
 lay_plans-networks-requires c =
     let a = c.args in
-    (addresses-fit a.first.now a.second.now c.requires.0.one c.requires.0.two c.requires.0.few c.requires.0.more c.requires.1.networks, omega arith, omega (arith, c.requires.1.room))
+    (addresses-fit a.tables.first.now a.tables.second.now c.args.tables.both_read.one c.args.tables.both_read.two c.args.tables.both_read.few c.args.tables.both_read.more c.requires.0.networks, omega arith, omega (arith, c.requires.0.room))
 
 pub gather_addresses-requires : goal.gather_addresses-requires
 gather_addresses-requires c =
     let laid = c.lay_plans-networks.ensures in
-    (c.requires.0, c.requires.1.networks, record { low = c.requires.3; room = omega (arith, c.requires.1.room, laid.same) }, laid.has)
+    (c.requires.0.networks, record { low = c.requires.2; room = omega (arith, c.requires.0.room, laid.same) }, laid.has)
 
 pub shape_of-words-then-column-eq-ADDRESSES : goal.shape_of-words-then-column-eq-ADDRESSES
 shape_of-words-then-column-eq-ADDRESSES c = c.gather_addresses.ensures.same ∙ c.lay_plans-networks.ensures.same
@@ -30,46 +30,46 @@ returns-then-column-eq-ADDRESSES c =
     let a = c.args in
     let seven : a.column ≡ 7 = c.if-column-eq-ADDRESSES.true in (
       (λ low. absurd (omega arith)),
-      subst (λ (column : ℕ). Gathered (rows_of a.first.now) (rows_of a.second.now) column a.words.now c.gather_addresses.new.words a.from c.gather_addresses.result)
+      subst (λ (column : ℕ). Gathered (rows_of a.tables.first.now) (rows_of a.tables.second.now) column a.words.now c.gather_addresses.new.words a.from c.gather_addresses.result)
           (sym seven)
-          (gathered-behind (rows_of a.first.now) (rows_of a.second.now) 7 a.words.now c.lay_plans-networks.new.words c.gather_addresses.new.words a.from c.gather_addresses.result c.lay_plans-networks.ensures.kept c.lay_plans-networks.ensures.same c.gather_addresses.ensures),
+          (gathered-behind (rows_of a.tables.first.now) (rows_of a.tables.second.now) 7 a.words.now c.lay_plans-networks.new.words c.gather_addresses.new.words a.from c.gather_addresses.result c.lay_plans-networks.ensures.kept c.lay_plans-networks.ensures.same c.gather_addresses.ensures),
     )
 
 pub states_of-found-requires : goal.states_of-found-requires
 states_of-found-requires c =
     let a = c.args in
-    (c.requires.0.one, c.requires.0.two, c.requires.1.narrow a.column (omega arith), omega (arith, c.requires.1.room))
+    (c.requires.0.narrow a.column (omega arith), omega (arith, c.requires.0.room))
 
-pub shape_of-words-then-found-gt-MOST_STATES : goal.shape_of-words-then-found-gt-MOST_STATES
-shape_of-words-then-found-gt-MOST_STATES c = c.states_of-found.ensures.same
+pub shape_of-words-in_err-states : goal.shape_of-words-in_err-states
+shape_of-words-in_err-states c = c.states_of-found.ensures.same
 
-pub returns-then-found-gt-MOST_STATES : goal.returns-then-found-gt-MOST_STATES
-returns-then-found-gt-MOST_STATES c =
+pub returns-in_err-states : goal.returns-in_err-states
+returns-in_err-states c =
     let a = c.args in
     let low : a.column < 7 = omega arith in
-    (low, found-many (rows_of a.first.now) (rows_of a.second.now) a.column a.words.now c.states_of-found.new.words c.states_of-found.result c.states_of-found.ensures (c.requires.1.narrow a.column low) c.if-found-gt-MOST_STATES.true, c.states_of-found.ensures.same)
+    subst (SurveyedColumn (rows_of a.tables.first.now) (rows_of a.tables.second.now) a.column a.words.now c.states_of-found.new.words a.from) (sym c.from_residual.ensures)
+    (low, found-many (rows_of a.tables.first.now) (rows_of a.tables.second.now) a.column a.words.now c.states_of-found.new.words c.states_of-found.result c.states_of-found.ensures (c.requires.0.narrow a.column low) c.in_err-states.was, c.states_of-found.ensures.same)
 
 pub lay_plans-plans-requires : goal.lay_plans-plans-requires
 lay_plans-plans-requires c =
     let a = c.args in
     let found = c.states_of-found.ensures in
-    let narrow = c.requires.1.narrow a.column (omega arith) in (
-      texts-fit a.first.now a.second.now c.requires.0.one c.requires.0.two c.requires.0.few c.requires.0.more a.column _ narrow,
-      omega (arith, narrow, found.mine, sum_both a.column (rows_of a.first.now) (rows_of a.second.now)),
-      omega (arith, c.requires.1.room, found.same),
+    let narrow = c.requires.0.narrow a.column (omega arith) in (
+      texts-fit a.tables.first.now a.tables.second.now c.args.tables.both_read.one c.args.tables.both_read.two c.args.tables.both_read.few c.args.tables.both_read.more a.column _ narrow,
+      omega (arith, narrow, found.mine, sum_both a.column (rows_of a.tables.first.now) (rows_of a.tables.second.now)),
+      omega (arith, c.requires.0.room, found.same),
     )
 
 pub gather_texts-requires : goal.gather_texts-requires
 gather_texts-requires c =
     let a = c.args in
     let low : a.column < 7 = omega arith in (
-      c.requires.0,
-      states-kept (rows_of a.first.now) (rows_of a.second.now) a.column c.states_of-found.new.words c.lay_plans-plans.new.words c.states_of-found.result.states c.lay_plans-plans.ensures.front
-          (found-states (rows_of a.first.now) (rows_of a.second.now) a.column a.words.now c.states_of-found.new.words c.states_of-found.result c.states_of-found.ensures (c.requires.1.narrow a.column low) (omega arith)),
+      states-kept (rows_of a.tables.first.now) (rows_of a.tables.second.now) a.column c.states_of-found.new.words c.lay_plans-plans.new.words c.in_ok-states.states c.lay_plans-plans.ensures.front
+          (found-states (rows_of a.tables.first.now) (rows_of a.tables.second.now) a.column a.words.now c.states_of-found.new.words c.states_of-found.result c.states_of-found.ensures (c.requires.0.narrow a.column low) c.in_ok-states.states c.in_ok-states.was),
       c.states_of-found.ensures.all,
       low,
-      record { low = c.requires.3; room = omega (arith, c.requires.1.room, c.states_of-found.ensures.same, c.lay_plans-plans.ensures.same) },
-      subst (λ (n : ℕ). HasPlans a.first.now a.second.now a.column true n c.lay_plans-plans.new.words c.lay_plans-plans.result) c.states_of-found.ensures.mine c.lay_plans-plans.ensures.has,
+      record { low = c.requires.2; room = omega (arith, c.requires.0.room, c.states_of-found.ensures.same, c.lay_plans-plans.ensures.same) },
+      subst (λ (n : ℕ). HasPlans a.tables.first.now a.tables.second.now a.column true n c.lay_plans-plans.new.words c.lay_plans-plans.result) c.states_of-found.ensures.mine c.lay_plans-plans.ensures.has,
     )
 
 pub shape_of-words : goal.shape_of-words
@@ -81,7 +81,7 @@ shape_of-words c =
 pub returns : goal.returns
 returns c =
     let a = c.args in
-    let low : a.column < 7 = omega (arith, c.requires.2, c.if-column-eq-ADDRESSES.false) in (
-      (λ under. found-few (rows_of a.first.now) (rows_of a.second.now) a.column a.words.now c.states_of-found.new.words c.states_of-found.result c.states_of-found.ensures (c.requires.1.narrow a.column low) (omega (arith, c.if-found-gt-MOST_STATES.false))),
-      gathered-behind (rows_of a.first.now) (rows_of a.second.now) a.column a.words.now c.lay_plans-plans.new.words c.gather_texts.new.words a.from c.gather_texts.result (c.lay_plans-plans.ensures.kept ∙ c.states_of-found.ensures.kept) (c.lay_plans-plans.ensures.same ∙ c.states_of-found.ensures.same) c.gather_texts.ensures,
+    let low : a.column < 7 = omega (arith, c.requires.1, c.if-column-eq-ADDRESSES.false) in (
+      (λ under. found-few (rows_of a.tables.first.now) (rows_of a.tables.second.now) a.column a.words.now c.states_of-found.new.words c.states_of-found.result c.states_of-found.ensures (c.requires.0.narrow a.column low) c.in_ok-states.states c.in_ok-states.was),
+      gathered-behind (rows_of a.tables.first.now) (rows_of a.tables.second.now) a.column a.words.now c.lay_plans-plans.new.words c.gather_texts.new.words a.from c.gather_texts.result (c.lay_plans-plans.ensures.kept ∙ c.states_of-found.ensures.kept) (c.lay_plans-plans.ensures.same ∙ c.states_of-found.ensures.same) c.gather_texts.ensures,
     )
