@@ -1,13 +1,6 @@
 -- What a walk over the entries of a table finds in a column is what stands there in the table's statements: a list is open from its own
 -- record to the next that opens or closes one. Elements speak of columns 0 to 2 and conditions of 3 to 7, so the order is the same.
-use Prim.Native.Nat.{ℕ, ◌+◌, ◌≤◌, ◌<◌}
-use mathlib.Core.Path.{◌≡◌, refl, sym, ap, ap₂, ◌∙◌}
-use mathlib.Core.Bool.{Bool, true, false}
-use mathlib.Core.List.{List, [], ◌∷◌, ◌++◌, append_assoc}
-use native.Mathlib.Omega.{arith}
-use lib.Dec.{eqb, ltb}
-use lib.ListN.{length}
-use borrow.Author.Tests.{ltb-true, ltb-false, ne_eqb}
+use Rattle.std.proofs.Common.{ℕ, ◌+◌, ◌≤◌, ◌<◌, ◌≡◌, refl, sym, ap, ap₂, ◌∙◌, Bool, true, false, List, [], ◌∷◌, ◌++◌, append_assoc, arith, eqb, ltb, length, ltb-true, ltb-false, ne_eqb}
 use Rattle.stored.specs.Choice.{pick}
 use Rattle.stored.specs.Items.{column_place, key_code}
 use Rattle.stored.specs.Entries.{Entry, item_of, bytes_of}

@@ -1,12 +1,7 @@
 -- Between two edges of the networks nothing changes: from an address up to below the next end of a network, every statement holds in column
 -- 7 as it does at the address.
-use Prim.Native.Nat.{ℕ, ◌+◌, ◌^◌, ◌≤◌, ◌<◌, min}
-use mathlib.Core.Path.{◌≡◌, refl, sym, ap, ap₂, ◌∙◌}
-use mathlib.Core.Bool.{Bool, true, false, ◌&&◌, ◌||◌}
-use mathlib.Core.List.{List, [], ◌∷◌, ◌++◌, map}
-use native.Mathlib.Omega.{arith}
-use lib.Dec.{eqb, leb, ltb}
-use borrow.Author.Tests.{ltb-true, ltb-false, le-leb, lt-leb, ne_eqb}
+use Rattle.std.proofs.Common.{ℕ, ◌+◌, ◌^◌, ◌≤◌, ◌<◌, min, ◌≡◌, refl, sym, ap, ap₂, ◌∙◌, Bool, true, false, ◌&&◌, ◌||◌, List, [], ◌∷◌, ◌++◌, map, arith, eqb, leb, ltb, ltb-true, ltb-false, le-leb, ne_eqb}
+use borrow.Author.Tests.{lt-leb}
 use Rattle.stored.specs.Choice.{pick, some, every}
 use Rattle.stored.specs.Items.{column_place}
 use Rattle.stored.specs.Operators.{row_of}

@@ -1,17 +1,9 @@
 -- A row that has none of the last positions of a plan's values runs over the plan like a row of no position: the run looks only there.
-use Prim.Native.Nat.{ℕ, zero, suc, ◌+◌, ◌-◌, ◌/◌, ◌%◌, ◌^◌, ◌<◌, ◌≤◌}
-use mathlib.Core.Path.{◌≡◌, refl, sym, ap, ◌∙◌}
-use mathlib.Core.Bool.{Bool, true, false, not, ◌&&◌, ◌||◌, false≢true, and-true}
-use mathlib.Core.List.{List, [], ◌∷◌}
-use mathlib.Core.Logic.{◌⊎◌, inl, inr}
-use native.Mathlib.Numerals.{add-one}
-use native.Mathlib.Omega.{arith}
-use lib.Bits.{bit_and, bit_or, or_comm}
-use lib.Dec.{eqb, ltb}
-use lib.ListN.{length, get_or, drop, set, length-set, get_or-eq_default}
-use lib.Seq.{drop-cons, get_or-set_same}
+use Rattle.std.proofs.Common.{ℕ, zero, suc, ◌+◌, ◌-◌, ◌/◌, ◌%◌, ◌^◌, ◌<◌, ◌≤◌, ◌≡◌, refl, sym, ap, ◌∙◌, Bool, true, false, not, ◌&&◌, ◌||◌, List, [], ◌∷◌, ◌⊎◌, inl, inr, add-one, arith, bit_and, bit_or, eqb, ltb, length, get_or, drop, set, length-set, drop-cons, get_or-set_same, eq-eqb, eqb-true}
+use mathlib.Core.Bool.{false≢true, and-true}
+use lib.Bits.{or_comm}
+use lib.ListN.{get_or-eq_default}
 use Rattle.std.specs.List.{list_any, zip}
-use borrow.Author.Tests.{eq-eqb, eqb-true}
 use Rattle.stored.specs.Choice.{pick}
 use Rattle.matching.specs.Machinery.Rows.{word_bit, row_bit, mark_row}
 use Rattle.matching.proofs.Rows.{below_or_not, row_zero}

@@ -1,9 +1,5 @@
 -- Runs laid down one behind the other are one run.
-use Prim.Native.Nat.{ℕ, suc, ◌+◌}
-use mathlib.Core.Path.{◌≡◌, ap, ◌∙◌}
-use mathlib.Core.List.{List, [], ◌∷◌, ◌++◌}
-use native.Mathlib.Omega.{arith}
-use lib.ListN.{length, set}
+use Rattle.std.proofs.Common.{ℕ, suc, ◌+◌, ◌≡◌, ap, ◌∙◌, List, [], ◌∷◌, ◌++◌, arith, length, set}
 use lib.Seq.{sets}
 
 -- a run behind a run

@@ -1,16 +1,6 @@
 -- The networks of column 7 in its plan: a word holds the address and the bits behind the prefix, and the least end of a network above an address
 -- can be read off the plan.
-use Prim.Native.Nat.{ℕ, ◌+◌, ◌-◌, ◌*◌, ◌/◌, ◌%◌, ◌^◌, ◌≤◌, ◌<◌, min}
-use mathlib.Core.Path.{◌≡◌, refl, ap, ap₂, ◌∙◌}
-use mathlib.Core.Bool.{Bool, true, false}
-use mathlib.Core.List.{List, [], ◌∷◌}
-use native.Mathlib.Numerals.{add-one}
-use native.Mathlib.Omega.{arith}
-use lib.Dec.{eqb, ltb}
-use lib.ListN.{length, get_or, drop}
-use lib.Seq.{drop-cons}
-use lib.Pow.{pow_pos}
-use borrow.Author.Tests.{le-ltb}
+use Rattle.std.proofs.Common.{ℕ, ◌+◌, ◌-◌, ◌*◌, ◌/◌, ◌%◌, ◌^◌, ◌≤◌, ◌<◌, min, ◌≡◌, refl, ap, ap₂, ◌∙◌, Bool, true, false, List, [], ◌∷◌, add-one, arith, eqb, ltb, length, get_or, drop, drop-cons, pow_pos, le-ltb}
 use Rattle.stored.specs.Choice.{pick}
 use Rattle.stored.specs.Items.{column_place, column_negated, key_code}
 use Rattle.stored.specs.Operators.{row_of}

@@ -1,15 +1,6 @@
 -- A plan as a loop over the records lays it down: a record adds its word, if any, and the rest is the plan of what is left behind it.
-use Prim.Native.Nat.{ℕ, suc, ◌+◌, ◌-◌, ◌≤◌, ◌<◌}
-use mathlib.Core.Path.{◌≡◌, refl, ap, ◌∙◌}
-use mathlib.Core.Bool.{Bool, true, false, not, ◌&&◌}
-use mathlib.Core.List.{List, ◌∷◌, ◌++◌}
-use native.Mathlib.Numerals.{add-one}
-use native.Mathlib.Omega.{arith}
+use Rattle.std.proofs.Common.{ℕ, suc, ◌+◌, ◌-◌, ◌≤◌, ◌<◌, ◌≡◌, refl, ap, ◌∙◌, Bool, true, false, not, ◌&&◌, List, ◌∷◌, ◌++◌, add-one, arith, eqb, length, get_or, drop, drop-cons, lt-ltb, le-ltb}
 use Rattle.std.specs.Prelude.{Some, None}
-use lib.Dec.{eqb}
-use lib.ListN.{length, get_or, drop}
-use lib.Seq.{drop-cons}
-use borrow.Author.Tests.{lt-ltb, le-ltb}
 use Rattle.stored.specs.Choice.{pick}
 use Rattle.stored.specs.Items.{column_place, column_negated, key_code}
 use Rattle.stored.specs.Operators.{row_of}

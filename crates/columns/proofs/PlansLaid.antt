@@ -1,12 +1,7 @@
 -- The plans of two tables in the workspace: where they were laid down they can be read, there is room for them, and they stay where only
 -- footprints are written, with what was worked out by them.
-use Prim.Native.Nat.{ℕ, ◌+◌, ◌≤◌}
-use mathlib.Core.Path.{◌≡◌, refl, sym, ap, ap₂, subst, ◌∙◌}
-use mathlib.Core.Bool.{Bool, true, false}
-use mathlib.Core.List.{List, ◌++◌}
-use native.Mathlib.Omega.{arith}
-use lib.ListN.{length, take, drop, length-append}
-use lib.Seq.{sets, sets-eq, length-sets, slice, take_at, drop_at, length-take-le}
+use Rattle.std.proofs.Common.{ℕ, ◌+◌, ◌≤◌, ◌≡◌, refl, sym, ap, ap₂, subst, ◌∙◌, Bool, true, false, List, ◌++◌, arith, length, take, drop, length-append, take_at, drop_at, length-take-le}
+use lib.Seq.{sets, sets-eq, length-sets, slice}
 use Rattle.stored.specs.Entries.{entries_of}
 use Rattle.stored.specs.Machinery.Following.{Accepted}
 use Rattle.judging.specs.Judging.{rows_of}

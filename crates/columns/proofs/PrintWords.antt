@@ -1,13 +1,6 @@
 -- Footprints of two tables as one set of rows: the second's rows shifted behind the first's fit into one word; and the rows of each by the
 -- plans of both.
-use Prim.Native.Nat.{ℕ, suc, ◌+◌, ◌*◌, ◌%◌, ◌^◌, ◌<◌, ◌≤◌}
-use mathlib.Core.Path.{◌≡◌, sym, ap, ap₂, subst, ◌∙◌}
-use mathlib.Core.Bool.{Bool, true, false}
-use mathlib.Core.List.{List, [], ◌++◌, append-nil}
-use native.Mathlib.Nat.{mul-le-mul_right, suc-mul, mul_comm}
-use native.Mathlib.Omega.{arith}
-use lib.ListN.{length}
-use lib.Pow.{pow-add, pow_mono, shl_exact}
+use Rattle.std.proofs.Common.{ℕ, suc, ◌+◌, ◌*◌, ◌%◌, ◌^◌, ◌<◌, ◌≤◌, ◌≡◌, sym, ap, ap₂, subst, ◌∙◌, Bool, true, false, List, [], ◌++◌, append-nil, mul-le-mul_right, suc-mul, mul_comm, arith, length, pow-add, pow_mono, shl_exact}
 use Rattle.stored.specs.Entries.{Entry, entries_of}
 use Rattle.stored.specs.Machinery.Following.{Accepted}
 use Rattle.stored.specs.Tables.{Statement, table_of}

@@ -1,12 +1,8 @@
 -- The walk over a table with a state in place of a string ends where the walk with the string does: the codes of the values still to come
 -- stand from the walk's position on, so that a value's last position is in the row exactly when the value matches the string.
-use Prim.Native.Nat.{ℕ, ◌+◌, ◌≤◌}
-use mathlib.Core.Path.{◌≡◌, refl, sym, ◌∙◌, ap, ap₂, subst}
-use mathlib.Core.Bool.{Bool, true, false, not, ◌&&◌, and-true, and-false}
-use mathlib.Core.List.{List, [], ◌∷◌, ◌++◌, append_assoc}
-use native.Mathlib.Omega.{arith}
-use lib.Dec.{eqb}
-use lib.ListN.{length, length-append, length-map}
+use Rattle.std.proofs.Common.{ℕ, ◌+◌, ◌≤◌, ◌≡◌, refl, sym, ◌∙◌, ap, ap₂, subst, Bool, true, false, not, ◌&&◌, List, [], ◌∷◌, ◌++◌, append_assoc, arith, eqb, length, length-append}
+use mathlib.Core.Bool.{and-true, and-false}
+use lib.ListN.{length-map}
 use Rattle.stored.specs.Choice.{pick}
 use Rattle.stored.specs.Items.{column_place, key_code}
 use Rattle.stored.specs.Entries.{Entry}

@@ -17,18 +17,18 @@ use matching::symbols::symbols_of;
 use stored::entries::{Entries, Entry, entries_of};
 use stored::items::{Item, column_place};
 
-/// What stands in a list: a value, or a network by its address and the length of its prefix.
+// What stands in a list: a value, or a network by its address and the length of its prefix.
 #[derive(Clone, Copy, Debug)]
-pub enum Listed<'a> {
+enum Listed<'a> {
     Text(&'a [u8]),
     Range(u32, u8),
 }
 
-/// What stands in a column, with how its list is read.
+// What stands in a column, with how its list is read.
 #[derive(Clone, Copy, Debug)]
-pub struct Content<'a> {
-    pub reading: Reading,
-    pub listed: Listed<'a>,
+struct Content<'a> {
+    reading: Reading,
+    listed: Listed<'a>,
 }
 
 /// The list at hand of a walk: whether it is of the column, and how it is read.
@@ -97,15 +97,15 @@ impl ListAt {
     }
 }
 
-/// The contents of a column of a table, one after the other.
+// The contents of a column of a table, one after the other.
 #[derive(Clone, Copy, Debug)]
-pub struct Contents<'a> {
+struct Contents<'a> {
     entries: Entries<'a>,
     column: usize,
     list: ListAt,
 }
 
-/// All that stands in a column of a table.
+// All that stands in a column of a table.
 #[tactic(auto, unfolding(crate::specs::Machinery::ContentsLeft::contents_left))]
 fn contents_of(table: &[u8], column: usize) -> Contents
     ensures { contents_left result ≡ all_contents column (entries_of table.now) }

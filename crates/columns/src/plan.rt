@@ -15,7 +15,7 @@ use stored::entries::{Entry, entries_of};
 use stored::items::{Item, column_place, is_negated_column};
 use stored::operators::operator_row;
 
-// Where the plans of two tables lie: the first's from CODES on, up to where the second's begins, and that one's end.
+/// Where the plans of two tables lie: the first's from CODES on, up to where the second's begins, and that one's end.
 #[derive(Clone, Copy, Debug, PartialEq, Eq)]
 pub struct Plans {
     pub middle: usize,
@@ -126,8 +126,9 @@ fn lay_plan(
     to
 }
 
-// Lays the plans of both tables down, one behind the other, in the place of the codes, which are not needed once the states are found. The
-// positions of the second table's values begin at a place.
+/// Lays the plans of both tables down, one behind the other, in the place of the codes, which are not needed once the states are found. The
+/// positions of the second table's values begin at a place.
+// stays: what may not change lays either plan of any column, of tables that need not have been read.
 pub fn lay_plans(
     words: &mut [u64],
     first: &[u8],

@@ -20,8 +20,8 @@ use crate::tables::Tables;
 use judging::request::Value;
 use judging::rows::rows_in;
 
-// What is worked out once for all states of a column of strings: where the plans lie, the last positions of their values, and the rows of
-// each table that hold for a state that has none of these.
+/// What is worked out once for all states of a column of strings: where the plans lie, the last positions of their values, and the rows of
+/// each table that hold for a state that has none of these.
 #[derive(Clone, Copy, Debug, PartialEq, Eq)]
 pub struct Prints {
     pub plans: Plans,
@@ -39,7 +39,7 @@ fn joined(own: u64, other: u64, size: u64) -> u64
     own + behind
 }
 
-// The footprint of an absent column.
+/// The footprint of an absent column.
 pub fn absent_print(first: &[u8], second: &[u8], column: usize, size: u64) -> u64
     requires { (length (rows_of first.now) ≤ 32) × (length (rows_of second.now) ≤ 32) × (size ≡ length (rows_of first.now)) }
     ensures { result ≡ rows_word (holds column absent) (rows_of first.now ++ rows_of second.now) }
@@ -49,7 +49,7 @@ pub fn absent_print(first: &[u8], second: &[u8], column: usize, size: u64) -> u6
     joined(own, other, size)
 }
 
-// The footprint of an address, by the plans of both tables.
+/// The footprint of an address, by the plans of both tables.
 pub fn address_print(words: &[u64], tables: Tables, plans: Plans, x: u64) -> u64
     requires { AddressPlans tables.first.now tables.second.now words.now plans × (prints_at ≤ length words.now) }
     ensures { result ≡ rows_word (holds 7 (number x)) (rows_of tables.entry.first.now ++ rows_of tables.entry.second.now) }
@@ -59,7 +59,7 @@ pub fn address_print(words: &[u64], tables: Tables, plans: Plans, x: u64) -> u64
     joined(own, other, tables.size)
 }
 
-// What all states of a column of strings need, by the plans of both tables.
+/// What all states of a column of strings need, by the plans of both tables.
 pub fn prints_of(words: &[u64], plans: Plans) -> Prints
     requires { (plans.middle ≤ length words.now) × (plans.end ≤ length words.now) }
     ensures { result ≡ prints_of words.now plans }
@@ -74,8 +74,8 @@ pub fn prints_of(words: &[u64], plans: Plans) -> Prints
     }
 }
 
-// The footprint of every string with a state, by the plans of both tables; most states have the last position of no value, and these have
-// one footprint.
+/// The footprint of every string with a state, by the plans of both tables; most states have the last position of no value, and these have
+/// one footprint.
 pub fn state_print(
     words: &[u64],
     row: [u64; 8],

@@ -1,9 +1,5 @@
 -- A row of eight words has no word for a position of 512 or more.
-use mathlib.Core.Path.{sym}
-use Prim.Native.Nat.{◌/◌, ◌%◌, ◌^◌, ◌≤◌}
-use native.Mathlib.Omega.{arith}
-use lib.ListN.{length, get_or}
-use lib.Bits.{bit_or}
+use Rattle.std.proofs.Common.{sym, ◌/◌, ◌%◌, ◌^◌, ◌≤◌, arith, length, get_or, bit_or}
 use lib.Seq.{set_out}
 use Rattle.matching.specs.Machinery.Rows.{mark_row}
 use Rattle.columns.proofs.last_positions.marked.Goals as goal

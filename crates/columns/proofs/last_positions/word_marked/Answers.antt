@@ -1,5 +1,5 @@
 -- The words below the first value are a statement and the two lists.
-use borrow.Author.Tests.{lt-ltb, le-ltb}
+use Rattle.std.proofs.Common.{lt-ltb, le-ltb}
 use Rattle.columns.specs.Machinery.LastPositions.{word_marked}
 use Rattle.columns.proofs.last_positions.word_marked.Goals as goal
 

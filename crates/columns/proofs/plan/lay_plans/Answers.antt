@@ -1,8 +1,5 @@
 -- The second table's plan goes behind the first's, and there is room for both.
-use Prim.Native.Nat.{ℕ}
-use mathlib.Core.Path.{sym, ap, ◌∙◌, subst}
-use mathlib.Core.List.{List}
-use native.Mathlib.Omega.{arith}
+use Rattle.std.proofs.Common.{ℕ, sym, ap, ◌∙◌, subst, List, arith}
 use lib.Seq.{sets}
 use Rattle.stored.specs.Entries.{entries_of}
 use Rattle.columns.specs.Machinery.Plan.{plan_of, LaysPlans}
