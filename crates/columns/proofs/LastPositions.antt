@@ -1,5 +1,5 @@
 -- A row that has none of the last positions of a plan's values runs over the plan like a row of no position: the run looks only there.
-use Rattle.std.proofs.Common.{ℕ, zero, suc, ◌+◌, ◌-◌, ◌/◌, ◌%◌, ◌^◌, ◌<◌, ◌≤◌, ◌≡◌, refl, sym, ap, ◌∙◌, Bool, true, false, not, ◌&&◌, ◌||◌, List, [], ◌∷◌, ◌⊎◌, inl, inr, add-one, arith, bit_and, bit_or, eqb, ltb, length, get_or, drop, set, length-set, drop-cons, get_or-set_same, eq-eqb, eqb-true}
+use Rattle.std.proofs.Common.{ℕ, zero, suc, ◌-◌, ◌/◌, ◌%◌, ◌^◌, ◌<◌, ◌≤◌, ◌≡◌, refl, sym, ap, ◌∙◌, Bool, true, false, not, ◌&&◌, ◌||◌, List, [], ◌∷◌, ◌⊎◌, inl, inr, arith, bit_and, bit_or, eqb, ltb, length, get_or, set, length-set, get_or-set_same, eq-eqb, eqb-true}
 use mathlib.Core.Bool.{false≢true, and-true}
 use lib.Bits.{or_comm}
 use lib.ListN.{get_or-eq_default}
@@ -80,10 +80,6 @@ last-length (word ∷ plan) row = last-length plan (word_marked row word) ∙ ma
 last-keeps : (plan row : List ℕ) (q : ℕ) → row_bit row q ≡ true → row_bit (last_positions row plan) q ≡ true
 last-keeps [] row q e = e
 last-keeps (word ∷ plan) row q e = last-keeps plan (word_marked row word) q (marks-keep row word q e)
-
--- the words left, one after the other
-pub marked_next : (row plan : List ℕ) (i : ℕ) → i < length plan → last_positions row (drop i plan) ≡ last_positions (word_marked row (get_or plan i 0)) (drop (i + 1) plan)
-marked_next row plan i low = ap (last_positions row) (drop-cons plan i 0 low) ∙ rw add-one
 
 -- two rows, word by word
 pub meet-any : (row others : List ℕ) → list_any (λ (p : ℕ × ℕ). not (eqb (bit_and p.0 p.1) 0)) (zip row others) ≡ rows_meet row others

@@ -1,7 +1,6 @@
 -- The networks of column 7 in its plan: a word holds the address and the bits behind the prefix, and the least end of a network above an address
 -- can be read off the plan.
-use Rattle.std.proofs.Common.{ℕ, ◌+◌, ◌-◌, ◌*◌, ◌/◌, ◌%◌, ◌^◌, ◌≤◌, ◌<◌, min, ◌≡◌, refl, ap, ap₂, ◌∙◌, Bool, true, false, List, [], ◌∷◌, add-one, arith, eqb, ltb, length, get_or, drop, drop-cons, pow_pos, le-ltb}
-use Rattle.stored.specs.Choice.{pick}
+use Rattle.std.proofs.Common.{ℕ, ◌+◌, ◌-◌, ◌*◌, ◌/◌, ◌%◌, ◌^◌, ◌≤◌, min, ◌≡◌, refl, ap, ap₂, ◌∙◌, Bool, true, false, List, [], ◌∷◌, arith, eqb, length, pow_pos, le-ltb}
 use Rattle.stored.specs.Items.{column_place, column_negated, key_code}
 use Rattle.stored.specs.Operators.{row_of}
 use Rattle.stored.specs.Entries.{Entry}
@@ -34,11 +33,6 @@ module _ (x : ℕ) where
   pub edge-most : (plan : List ℕ) → edge_in plan x ≤ 2 ^ 32
   edge-most [] = omega arith
   edge-most (word ∷ plan) = omega (arith, edge-most plan)
-
-  -- the words left, one after the other
-  pub edge-next : (plan : List ℕ) (i : ℕ) → i < length plan
-      → edge_in (drop i plan) x ≡ min (pick (ltb (get_or plan i 0) 4) (2 ^ 32) (edge_of (get_or plan i 0 - 4) x)) (edge_in (drop (i + 1) plan) x)
-  edge-next plan i low = ap (λ (l : List ℕ). edge_in l x) (drop-cons plan i 0 low) ∙ rw add-one
 
   -- a word that is no network
   list-passed : (here negated : Bool) (plan : List ℕ) → edge_in (with_word here (list_word negated) plan) x ≡ edge_in plan x

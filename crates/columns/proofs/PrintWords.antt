@@ -1,6 +1,6 @@
 -- Footprints of two tables as one set of rows: the second's rows shifted behind the first's fit into one word; and the rows of each by the
 -- plans of both.
-use Rattle.std.proofs.Common.{ℕ, suc, ◌+◌, ◌*◌, ◌%◌, ◌^◌, ◌<◌, ◌≤◌, ◌≡◌, sym, ap, ap₂, subst, ◌∙◌, Bool, true, false, List, [], ◌++◌, append-nil, mul-le-mul_right, suc-mul, mul_comm, arith, length, pow-add, pow_mono, shl_exact}
+use Rattle.std.proofs.Common.{ℕ, ◌+◌, ◌*◌, ◌^◌, ◌<◌, ◌≤◌, ◌≡◌, sym, ap, ap₂, subst, ◌∙◌, Bool, true, false, List, [], ◌++◌, append-nil, arith, length}
 use Rattle.stored.specs.Entries.{Entry, entries_of}
 use Rattle.stored.specs.Machinery.Following.{Accepted}
 use Rattle.stored.specs.Tables.{Statement, table_of}
@@ -25,23 +25,6 @@ use Rattle.columns.proofs.LastPositions.{both-alike}
 use Rattle.columns.proofs.PlanDecides.{plan-decides, plan-finds}
 use Rattle.columns.proofs.StateWalk.{state-walk-means, codes-both}
 use Rattle.columns.proofs.Widths.{codes-sum}
-
--- two sets of at most 32 rows fit into one word
-pub join-fits : (own other size : ℕ) → own < 2 ^ size → size ≤ 32 → other < 2 ^ 32 → own + other * 2 ^ size < 2 ^ 64
-join-fits own other size low few high =
-    omega (
-      arith,
-      low,
-      mul-le-mul_right {m = suc other} {n = 2 ^ 32} (2 ^ size) high,
-      suc-mul other (2 ^ size),
-      pow-add 2 32 size,
-      pow_mono {i = 32 + size} {j = 64} (omega arith),
-    )
-
--- no bit is shifted out
-pub join_is : (own other size : ℕ) → size ≤ 32 → other < 2 ^ 32 → own + other * 2 ^ size % 2 ^ 64 ≡ own + 2 ^ size * other
-join_is own other size few high =
-    ap (λ (n : ℕ). own + n) (shl_exact 32 size 64 high (omega arith) ∙ mul_comm other (2 ^ size))
 
 -- The rows of each of two tables that pass a test fit into one word, and this word is the rows of both.
 module _ (test : Statement → Bool) (first second : List Statement) (size own other : ℕ)

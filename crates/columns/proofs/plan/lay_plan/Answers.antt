@@ -15,11 +15,6 @@ loop-entry-init c =
     rw (c.into_iter-entry-iterator.ensures.into_iter_gives, c.entries_of-entry-items.ensures, c.fresh-list.ensures)
     (omega (arith, entries-fit c.args.table.now), refl, refl)
 
-pub item_word-requires : goal.item_word-requires
-item_word-requires c =
-    let taken = ap bytes_taken c.in-Some.ensures.steps in
-    omega (arith, c.loop-entry.invariant.0, c.requires.0, c.well_formed)
-
 pub loop-entry-preserved : goal.loop-entry-preserved
 loop-entry-preserved c =
     let a = c.args in

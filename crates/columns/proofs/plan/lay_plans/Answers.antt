@@ -1,17 +1,10 @@
 -- The second table's plan goes behind the first's, and there is room for both.
-use Rattle.std.proofs.Common.{ℕ, sym, ap, ◌∙◌, subst, List, arith}
+use Rattle.std.proofs.Common.{ℕ, sym, ap, ◌∙◌, subst, List}
 use lib.Seq.{sets}
 use Rattle.stored.specs.Entries.{entries_of}
 use Rattle.columns.specs.Machinery.Plan.{plan_of, LaysPlans}
 use Rattle.columns.proofs.PlansLaid.{plans-laid}
 use Rattle.columns.proofs.plan.lay_plans.Goals as goal
-
-pub lay_plan-middle-requires : goal.lay_plan-middle-requires
-lay_plan-middle-requires c = (omega arith, omega (arith, c.requires.0, c.requires.2))
-
-pub lay_plan-end-requires : goal.lay_plan-end-requires
-lay_plan-end-requires c =
-    (c.requires.1, omega (arith, c.requires.0, c.requires.2, c.lay_plan-middle.auto.words, c.lay_plan-middle.ensures.next))
 
 pub returns : goal.returns
 returns c =

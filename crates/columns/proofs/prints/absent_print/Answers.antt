@@ -1,16 +1,10 @@
 -- The rows of each table that hold, the second's behind the first's.
-use Rattle.std.proofs.Common.{arith, ◌∙◌}
+use Rattle.std.proofs.Common.{◌∙◌}
 use Rattle.judging.specs.Requests.{absent}
 use Rattle.judging.specs.Meaning.{holds}
 use Rattle.judging.specs.Judging.{rows_of}
 use Rattle.columns.proofs.PrintWords.{both-fit, both-print}
 use Rattle.columns.proofs.prints.absent_print.Goals as goal
-
-pub rows_in-own-requires : goal.rows_in-own-requires
-rows_in-own-requires c = omega (arith, c.requires.0)
-
-pub rows_in-other-requires : goal.rows_in-other-requires
-rows_in-other-requires c = omega (arith, c.requires.1)
 
 pub joined-requires : goal.joined-requires
 joined-requires c =

@@ -1,17 +1,11 @@
 -- The runs over the plans find the rows of each table that hold, the second's behind the first's.
-use Rattle.std.proofs.Common.{arith, ◌∙◌}
+use Rattle.std.proofs.Common.{◌∙◌}
 use Rattle.stored.specs.Entries.{entries_of}
 use Rattle.judging.specs.Requests.{number}
 use Rattle.judging.specs.Meaning.{holds}
 use Rattle.judging.specs.Judging.{rows_of}
 use Rattle.columns.proofs.PrintWords.{address-side, both-fit, both-print}
 use Rattle.columns.proofs.prints.address_print.Goals as goal
-
-pub own-requires : goal.own-requires
-own-requires c = omega (arith, c.requires.0.order, c.requires.0.within, c.requires.1)
-
-pub other-requires : goal.other-requires
-other-requires c = omega (arith, c.requires.0.within, c.requires.1)
 
 pub joined-requires : goal.joined-requires
 joined-requires c =

@@ -1,16 +1,10 @@
 -- By any string with the state: the runs over the plans find the rows of each table that hold for the string, the second's positions behind the
 -- first's, and its rows behind the first's. A state that has none of the last positions runs over the plans like one that has no position.
-use Rattle.std.proofs.Common.{List, ℕ, arith, sym, ap, ◌∙◌}
+use Rattle.std.proofs.Common.{List, ℕ, sym, ap, ◌∙◌}
 use Rattle.matching.specs.Machinery.Rows.{row_bit}
 use Rattle.columns.specs.Machinery.Plan.{fresh_run, done_run, run_plan}
 use Rattle.columns.proofs.PrintWords.{sides-fit, sides-print, none-met}
 use Rattle.columns.proofs.prints.state_print.Goals as goal
-
-pub own-requires : goal.own-requires
-own-requires c = omega (arith, c.requires.0.laid.order, c.requires.0.laid.within, c.requires.1)
-
-pub other-requires : goal.other-requires
-other-requires c = omega (arith, c.requires.0.laid.within, c.requires.1)
 
 pub joined-requires : goal.joined-requires
 joined-requires c =

@@ -1,13 +1,9 @@
 use Rattle.std.proofs.Common.{◌≡◌, ◌+◌, ◌-◌, Bool, sym, ap, ◌∙◌, drop, get_or}
-use Rattle.std.proofs.Math.ListN.{drop_of_length-le}
 use Rattle.columns.specs.declared.runs.Run.{Run}
-use Rattle.columns.specs.Machinery.Plan.{done_run, seen_run, run_word, run_plan}
+use Rattle.columns.specs.Machinery.Plan.{seen_run, run_word, run_plan}
 use Rattle.columns.proofs.PlanSteps.{run-next, word-opens, word-seen}
 use Rattle.columns.proofs.runs.rows_by.Goals as goal
 use Rattle.columns.proofs.runs.rows_by.Goals.{then-word-lt-FIRST_VALUE, else-word-lt-FIRST_VALUE}
-
-pub loop-word-init : goal.loop-word-init
-loop-word-init g c = λ matches is. ap (λ (run : Run). run_plan matches run c.args.plan.now) c.fresh-run.ensures
 
 pub loop-word-preserved : goal.loop-word-preserved
 loop-word-preserved g c =
@@ -25,10 +21,3 @@ loop-word-preserved g c =
     ap (λ (run : Run). run_plan matches run (drop (l.word-index + 1) plan)) step
     ∙ sym (run-next matches l.run plan l.word-index c.loop-word-test.true)
     ∙ l.invariant matches is
-
-pub returns : goal.returns
-returns g c =
-    λ matches is.
-    let l = c.loop-word in
-    c.rows.ensures
-    ∙ ap done_run (sym (ap (run_plan matches l.run) (drop_of_length-le c.args.plan.now {i = l.word-index} c.loop-word-test.false)) ∙ l.invariant matches is)
