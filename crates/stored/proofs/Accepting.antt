@@ -15,7 +15,6 @@ use Rattle.stored.specs.declared.records.Kind.TheVariants as K
 use Rattle.stored.specs.declared.machine.Phase.{Phase}
 use Rattle.stored.specs.declared.machine.Phase.TheVariants as P
 use Rattle.stored.specs.declared.machine.State.{State}
-use Rattle.stored.proofs.Choosing.{never}
 use Rattle.stored.proofs.Walking.{past, goes_on_lem, ends-cut, kind-agrees}
 use Rattle.stored.proofs.Steps.{Taken, taken, goes-inside}
 use Rattle.stored.proofs.Turns.{admitted, admits, same-admit, in-turn, Turned, turned}
@@ -56,7 +55,7 @@ finished s at n = go (is_ended s.phase) refl
   where
     go : (b : Bool) → is_ended s.phase ≡ b → pick b (A.Accepted s.rows) (A.Refused 2 at) ≡ A.Accepted n → Led s [] n
     go true e h = record { last = s; leads = refl; ended = e; counted = cc }
-    go false e h = never (cc)
+    go false e h = absurd (cc)
 
 pub led : (f : ℕ) (t : List ℕ) (s : State) (at n : ℕ) → length t - at ≤ f → read_from f t s at ≡ A.Accepted n
     → Led s (entries_from t at) n
@@ -71,7 +70,7 @@ led (suc f) t s at n h e = place (ltb at (length t)) refl (λ u p r. led f t u p
         let l = go u p (goes-inside s t at u p e) a in
         rw (entries-taken s t at u p k)
         (record { last = l.last; leads = (u, admits-taken s t at u p k, l.leads); ended = l.ended; counted = l.counted })
-    step (S.Stops m) e go a = never (cc)
+    step (S.Stops m) e go a = absurd (cc)
 
     place : (b : Bool) → ltb at (length t) ≡ b
         → ((u : State) (p : ℕ) → (at < p) × (p ≤ length t) → read_from f t u p ≡ A.Accepted n → Led u (entries_from t p) n)
@@ -87,7 +86,7 @@ read_through t n = go (ltb 16384 (length t)) refl
   where
     go : (b : Bool) → ltb 16384 (length t) ≡ b → pick b (A.Refused 1 16384) (read_from (length t) t fresh_state 0) ≡ A.Accepted n
         → (length t ≤ 16384) × (read_from (length t) t fresh_state 0 ≡ A.Accepted n)
-    go true e a = never (cc)
+    go true e a = absurd (cc)
     go false e a = (ltb-false 16384 (length t) e, a)
 
 pub read-leads : (t : List ℕ) (n : ℕ) → reading t ≡ A.Accepted n → Led fresh_state (entries_of t) n
@@ -122,25 +121,25 @@ start_first P.Ended left e = e
 
 -- a statement begins while some are left
 pub statement-left : (p : Phase) (left : ℕ) → takes_kind p left K.Statement ≡ true → 0 < left
-statement-left P.Fresh left e = never (cc)
+statement-left P.Fresh left e = absurd (cc)
 statement-left P.Counted left e = ltb-true 0 left e
-statement-left P.Opened left e = never (cc)
-statement-left P.Principals left e = never (cc)
-statement-left P.Actions left e = never (cc)
+statement-left P.Opened left e = absurd (cc)
+statement-left P.Principals left e = absurd (cc)
+statement-left P.Actions left e = absurd (cc)
 statement-left P.Resources left e = ltb-true 0 left e
 statement-left P.Conditions left e = ltb-true 0 left e
-statement-left P.Ended left e = never (cc)
+statement-left P.Ended left e = absurd (cc)
 
 -- the end comes when none is left
 pub end-left : (p : Phase) (left : ℕ) → takes_kind p left K.End ≡ true → left ≡ 0
-end-left P.Fresh left e = never (cc)
+end-left P.Fresh left e = absurd (cc)
 end-left P.Counted left e = eqb-true left 0 e
-end-left P.Opened left e = never (cc)
-end-left P.Principals left e = never (cc)
-end-left P.Actions left e = never (cc)
+end-left P.Opened left e = absurd (cc)
+end-left P.Principals left e = absurd (cc)
+end-left P.Actions left e = absurd (cc)
 end-left P.Resources left e = eqb-true left 0 e
 end-left P.Conditions left e = eqb-true left 0 e
-end-left P.Ended left e = never (cc)
+end-left P.Ended left e = absurd (cc)
 
 pub column-fresh : (c : Column) → is_fresh (column_phase c) ≡ false
 column-fresh C.Principal = refl
@@ -173,20 +172,20 @@ rows_left [] s last l d f z = (sym (z (rw l d)), ap (λ (x : State). x.rows) (sy
 rows_left (start n ∷ es) s last l d f z =
     let k = took s (start n) l.0 l.1 in
     let e : is_fresh s.phase ≡ true = start_first s.phase s.left k.0 in
-    never (cc)
+    absurd (cc)
 rows_left (statement x ∷ es) s last l d f z =
     let k = took s (statement x) l.0 l.1 in
     let h = statement-left s.phase s.left k.0 in
-    let r = rows_left es (opened_state s) last (rw k.1 at l.2) d refl (λ e. never (cc)) in
+    let r = rows_left es (opened_state s) last (rw k.1 at l.2) d refl (λ e. absurd (cc)) in
     let r0 = r.0 in
     (omega arith, r.1)
 rows_left (column c ∷ es) s last l d f z =
     let k = took s (column c) l.0 l.1 in
     let e = column-ended c in
-    rows_left es (listed_state s (column_phase c) s.conditions O.Text) last (rw k.1.1 at l.2) d (column-fresh c) (λ h. never (cc))
+    rows_left es (listed_state s (column_phase c) s.conditions O.Text) last (rw k.1.1 at l.2) d (column-fresh c) (λ h. absurd (cc))
 rows_left (condition o q ∷ es) s last l d f z =
     let k = took s (condition o q) l.0 l.1 in
-    rows_left es _ last (rw k.1 at l.2) d refl (λ h. never (cc))
+    rows_left es _ last (rw k.1 at l.2) d refl (λ h. absurd (cc))
 rows_left (network a n ∷ es) s last l d f z =
     let k = took s (network a n) l.0 l.1 in
     rows_left es (filled_state s (s.values + 1)) last (rw k.1 at l.2) d f z
@@ -209,34 +208,34 @@ pub record Started (es : List Entry) (last : State) : Type 0 where
 pub starts : (es : List Entry) (last : State) → Leads fresh_state es last → is_ended last.phase ≡ true → Started es last
 starts [] last l d =
     let e : false ≡ true = ap (λ (x : State). is_ended x.phase) l ∙ d in
-    never (cc)
+    absurd (cc)
 starts (start n ∷ es) last l d =
     let k = took fresh_state (start n) l.0 l.1 in
     record { number = n; rest = es; first = refl; few = k.1.0; leads = rw k.1.1 at l.2 }
 starts (statement x ∷ es) last l d =
     let k = took fresh_state (statement x) l.0 l.1 in
     let e = k.0 in
-    never (cc)
+    absurd (cc)
 starts (column c ∷ es) last l d =
     let k = took fresh_state (column c) l.0 l.1 in
     let e = k.0 in
-    never (cc)
+    absurd (cc)
 starts (condition o q ∷ es) last l d =
     let k = took fresh_state (condition o q) l.0 l.1 in
     let e = k.0 in
-    never (cc)
+    absurd (cc)
 starts (network a n ∷ es) last l d =
     let k = took fresh_state (network a n) l.0 l.1 in
     let e = k.0 in
-    never (cc)
+    absurd (cc)
 starts (value bs ∷ es) last l d =
     let k = took fresh_state (value bs) l.0 l.1 in
     let e = k.0 in
-    never (cc)
+    absurd (cc)
 starts (end ∷ es) last l d =
     let k = took fresh_state end l.0 l.1 in
     let e = k.0 in
-    never (cc)
+    absurd (cc)
 
 -- from the beginning the rows are as many as the number says, at most 32
 fresh-rows : (es : List Entry) (last : State) → Leads fresh_state es last → is_ended last.phase ≡ true
@@ -245,7 +244,7 @@ fresh-rows es last l d =
     let k = starts es last l d in
     let n = k.number in
     let few = k.few in
-    let r = rows_left k.rest (counted_state n) last k.leads d refl (λ e. never (cc)) in
+    let r = rows_left k.rest (counted_state n) last k.leads d refl (λ e. absurd (cc)) in
     let many : length (table_of es) ≡ n = ap (λ (x : List Entry). length (table_of x)) k.first ∙ r.0 in
     (many ∙ sym r.1, omega arith)
 

@@ -12,7 +12,7 @@ use Rattle.stored.specs.declared.items.Item.{Item}
 use Rattle.stored.specs.declared.items.Item.TheVariants as I
 use Rattle.stored.specs.declared.records.Kind.{Kind}
 use Rattle.stored.specs.declared.records.Kind.TheVariants as K
-use Rattle.stored.proofs.Choosing.{never, pick-cases, both_left, both_right}
+use Rattle.stored.proofs.Choosing.{pick-cases, both_left, both_right}
 
 -- a kind byte with its kind
 pub data KindIs (b : ℕ) : Kind → Type 0 where
@@ -96,7 +96,7 @@ condition-written o k None key e h = tt
 
 -- a list of one, two or five numbers by its elements
 one : (l : List ℕ) → length l ≡ 1 → l ≡ get_or l 0 0 ∷ []
-one [] e = never e
+one [] e = absurd (cc)
 one (a ∷ []) e = refl
 one (a ∷ b ∷ l) e = absurd (omega arith)
 
@@ -165,7 +165,7 @@ record-bytes b k (is_value low high) body size bytes i says =
     let g : I.Value ≡ i = cc in
     let e : b ≡ length body + 0x3F = omega arith in
     rw (← g) (ap (◌∷ body) e)
-record-bytes b k is_unknown body size bytes i says = never (cc)
+record-bytes b k is_unknown body size bytes i says = absurd (cc)
 
 -- a decoded body holds an item of this kind
 abbrev OfKind : Kind → ℕ → Option Item → Type 0
@@ -202,13 +202,13 @@ same_kind k body size i says = subst (OfKind k (length body)) says (of-kind k bo
 
 -- a kind of value says a length of 1 to 128
 pub value-size : (b : ℕ) (k : Kind) → KindIs b k → (n : ℕ) → k ≡ K.Value n → (0 < n) × (n ≤ 128)
-value-size b k (is_start e) n h = never (cc)
-value-size b k (is_statement e) n h = never (cc)
-value-size b k (is_column e) n h = never (cc)
-value-size b k (is_condition e) n h = never (cc)
-value-size b k (is_end e) n h = never (cc)
-value-size b k (is_network e) n h = never (cc)
+value-size b k (is_start e) n h = absurd (cc)
+value-size b k (is_statement e) n h = absurd (cc)
+value-size b k (is_column e) n h = absurd (cc)
+value-size b k (is_condition e) n h = absurd (cc)
+value-size b k (is_end e) n h = absurd (cc)
+value-size b k (is_network e) n h = absurd (cc)
 value-size b k (is_value low high) n h =
     let e : b - 0x3F ≡ n = cc in
     (omega arith, omega arith)
-value-size b k is_unknown n h = never (cc)
+value-size b k is_unknown n h = absurd (cc)

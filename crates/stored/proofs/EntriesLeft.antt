@@ -1,17 +1,16 @@
 -- The walk over the records of a byte string does not know what stands before them: from a place on it is the walk over the bytes from
 -- there on, so that an iterator over the records need only keep these.
-use Rattle.std.proofs.Common.{◌≡◌, ℕ, zero, suc, ◌+◌, ◌-◌, ◌≤◌, ◌<◌, List, [], ◌∷◌, Bool, true, false, ltb, length, get_or, take, drop, refl, sym, ap, ◌∙◌, arith, length-drop, drop-drop, lt-ltb, le-ltb, ltb-true, ltb-false, Option, Some, None, Err}
+use Rattle.std.proofs.Common.{◌≡◌, ℕ, zero, suc, ◌+◌, ◌-◌, ◌≤◌, List, [], ◌∷◌, Bool, true, false, ltb, length, take, drop, refl, sym, ap, ◌∙◌, arith, length-drop, drop-drop, lt-ltb, le-ltb, ltb-true, ltb-false, Option, Some, None, Err}
 use Rattle.std.proofs.lemmas.List.{get_or-drop}
 use Rattle.stored.specs.Choice.{pick}
-use Rattle.stored.specs.Records.{Record, Record as R, as_record, kind_of, size_of, decode_of, known, record_behind, record_at}
+use Rattle.stored.specs.Records.{Record, Record as R, as_record, size_of, known, record_behind, record_at}
 use Rattle.stored.specs.Entries.{Entry, entry_of, bytes_of, after_record, walk, entries_from, entries_of}
-use Rattle.stored.specs.Machinery.Placing.{HasKind}
 use Rattle.stored.specs.declared.items.Item.{Item}
 use Rattle.stored.specs.declared.items.Item.TheVariants as I
 use Rattle.stored.specs.declared.records.Kind.{Kind}
 use Rattle.stored.specs.declared.records.RecordFault.{RecordFault}
 use Rattle.stored.specs.declared.records.RecordFault.TheVariants as F
-use Rattle.stored.proofs.Walking.{inside, body-length, value-short, goes_on_lem, ends-cut, ends-strange, past}
+use Rattle.stored.proofs.Walking.{inside, body-length, goes_on_lem, ends-cut, ends-strange}
 
 -- a record further on by a number of bytes
 moved : ℕ → Record → Record

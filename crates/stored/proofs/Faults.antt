@@ -1,5 +1,5 @@
 -- A reason has a number, and none has 0: what is found wrong is told from nothing by its number.
-use Rattle.std.proofs.Common.{◌≡◌, ℕ, false, eqb, refl}
+use Rattle.std.proofs.Common.{◌≡◌, false, eqb, refl}
 use Rattle.refusals.specs.Numbers.{number_of}
 use Rattle.refusals.specs.declared.Reason.{Reason}
 use Rattle.refusals.specs.declared.Reason.TheVariants as R

@@ -25,7 +25,6 @@ use Rattle.stored.specs.declared.records.Kind.TheVariants as K
 use Rattle.stored.specs.declared.machine.Phase.{Phase}
 use Rattle.stored.specs.declared.machine.Phase.TheVariants as P
 use Rattle.stored.specs.declared.machine.State.{State}
-use Rattle.stored.proofs.Choosing.{never}
 use Rattle.stored.proofs.Turns.{admits}
 use Rattle.stored.proofs.Accepting.{Led}
 use Rattle.stored.proofs.RoundTrip.{reads-back}
@@ -87,14 +86,14 @@ no-empty true k c = rw c
 no-empty false k c = refl
 
 content-due : (p : Phase) (left : ℕ) (w : Bool) (k : Kind) → in_list p ≡ true → is_content k ≡ true → is_unknown k ≡ false → due_in p left w k ≡ 0
-content-due P.Fresh left w k e c f = never (cc)
-content-due P.Counted left w k e c f = never (cc)
-content-due P.Opened left w k e c f = never (cc)
+content-due P.Fresh left w k e c f = absurd (cc)
+content-due P.Counted left w k e c f = absurd (cc)
+content-due P.Opened left w k e c f = absurd (cc)
 content-due P.Principals left w k e c f = rw (f, no-empty w k c, c)
 content-due P.Actions left w k e c f = rw (f, no-empty w k c, c)
 content-due P.Resources left w k e c f = rw (f, no-empty w k c, c)
 content-due P.Conditions left w k e c f = rw (f, no-empty w k c, c)
-content-due P.Ended left w k e c f = never (cc)
+content-due P.Ended left w k e c f = absurd (cc)
 
 network-admitted : (s : State) (a n : ℕ) → in_list s.phase ≡ true → MayHold s.sort (range a n) → s.values < 64
     → admit s (network a n) ≡ T.Next (filled_state s (s.values + 1))
@@ -180,11 +179,11 @@ record OfColumn (c : Column) : Type 0 where
 
 of-column : (c : Column) → OfColumn c
 of-column C.Principal = record { low = omega arith; opens = refl; next = refl; principal = λ e. refl; last = λ e. absurd (omega arith) }
-of-column C.Action = record { low = omega arith; opens = refl; next = refl; principal = λ e. never (cc); last = λ e. absurd (omega arith) }
-of-column C.Resource = record { low = omega arith; opens = refl; next = refl; principal = λ e. never (cc); last = λ e. refl }
+of-column C.Action = record { low = omega arith; opens = refl; next = refl; principal = λ e. absurd (cc); last = λ e. absurd (omega arith) }
+of-column C.Resource = record { low = omega arith; opens = refl; next = refl; principal = λ e. absurd (cc); last = λ e. refl }
 of-column C.NotPrincipal = record { low = omega arith; opens = refl; next = refl; principal = λ e. refl; last = λ e. absurd (omega arith) }
-of-column C.NotAction = record { low = omega arith; opens = refl; next = refl; principal = λ e. never (cc); last = λ e. absurd (omega arith) }
-of-column C.NotResource = record { low = omega arith; opens = refl; next = refl; principal = λ e. never (cc); last = λ e. refl }
+of-column C.NotAction = record { low = omega arith; opens = refl; next = refl; principal = λ e. absurd (cc); last = λ e. absurd (omega arith) }
+of-column C.NotResource = record { low = omega arith; opens = refl; next = refl; principal = λ e. absurd (cc); last = λ e. refl }
 
 place-due : (p : Phase) (left : ℕ) (w : Bool) (c : Column) → w ≡ false → place_due p ≡ column_place c → due_in p left w K.Column ≡ 0
 place-due P.Fresh left w c f e = absurd (omega (arith, (of-column c).low))
@@ -221,9 +220,9 @@ elements-taken : (l : List Element) (s : State) (es : List Entry) (n : ℕ) → 
     → ((e : Element) → In e l → SoundElement e) → ((e : Element) → In e l → 0 < length e.values) → elements_list l ≤ 64
     → ((u : State) → is_behind u.phase ≡ true → u.conditions ≡ 0 → u.values ≡ elements_list l → Closed (opened_state s) u → Led u es n)
     → Led (opened_state s) (elements_for l es) n
-elements-taken [] s es n o h f b k = never (cc)
-elements-taken (d ∷ []) s es n o h f b k = never (cc)
-elements-taken (d ∷ e ∷ []) s es n o h f b k = never (cc)
+elements-taken [] s es n o h f b k = absurd (cc)
+elements-taken (d ∷ []) s es n o h f b k = absurd (cc)
+elements-taken (d ∷ e ∷ []) s es n o h f b k = absurd (cc)
 elements-taken (d ∷ e ∷ g ∷ []) s es n o h f b k =
     let first : column_place d.name ≡ 0 = cc in
     let second : column_place e.name ≡ 1 = cc in
@@ -237,17 +236,17 @@ elements-taken (d ∷ e ∷ g ∷ []) s es n o h f b k =
     (element-taken e s1 (elements_for (g ∷ []) es) n refl (omega arith) (h e (inr (inl refl))) (f e (inr (inl refl))) (omega arith)
     (element-taken g s2 es n refl (omega arith) (h g (inr (inr (inl refl)))) (f g (inr (inr (inl refl)))) (omega arith)
     (k s3 ((of-column g.name).last third) refl (omega arith) (record { waiting = refl; left = refl; rows = refl }))))
-elements-taken (d ∷ e ∷ g ∷ x ∷ l) s es n o h f b k = never (cc)
+elements-taken (d ∷ e ∷ g ∷ x ∷ l) s es n o h f b k = absurd (cc)
 
 condition-due : (p : Phase) (left : ℕ) (w : Bool) → is_behind p ≡ true → w ≡ false → due_in p left w K.Condition ≡ 0
-condition-due P.Fresh left w e f = never (cc)
-condition-due P.Counted left w e f = never (cc)
-condition-due P.Opened left w e f = never (cc)
-condition-due P.Principals left w e f = never (cc)
-condition-due P.Actions left w e f = never (cc)
+condition-due P.Fresh left w e f = absurd (cc)
+condition-due P.Counted left w e f = absurd (cc)
+condition-due P.Opened left w e f = absurd (cc)
+condition-due P.Principals left w e f = absurd (cc)
+condition-due P.Actions left w e f = absurd (cc)
 condition-due P.Resources left w e f = rw f
 condition-due P.Conditions left w e f = rw f
-condition-due P.Ended left w e f = never (cc)
+condition-due P.Ended left w e f = absurd (cc)
 
 sorts-agree : (a b : Sort) → a ≡ b → same_sort a b ≡ true
 sorts-agree a b e = rw e (by b)
@@ -271,30 +270,30 @@ conditions-taken (c ∷ l) s es n p w few b h f k =
     (admits s (I.Condition o c.key) [] u (condition-due s.phase s.left s.waiting p w)
     (rw (lt-leb 4 s.conditions (omega arith), sorts-agree (row_of o).sort (key_sort c.key) sound.one_sort)))
     (lists c.values u (conditions_for l es) n (f c (inl refl)) refl
-    (λ x i. subst (λ (sort : Sort). MayHold sort x) (sym sound.one_sort) (sound.holds x i)) (λ q. never (cc)) (omega arith)
+    (λ x i. subst (λ (sort : Sort). MayHold sort x) (sym sound.one_sort) (sound.holds x i)) (λ q. absurd (cc)) (omega arith)
     (conditions-taken l (filled_state u (s.values + length c.values)) es n refl refl (omega arith) (omega arith)
     (λ d i. h d (inr i)) (λ d i. f d (inr i))
     (λ v q r. k v q (record { waiting = r.waiting; left = r.left; rows = r.rows }))))
 
 statement-due : (p : Phase) (left : ℕ) (w : Bool) → is_between p ≡ true → w ≡ false → 0 < left → due_in p left w K.Statement ≡ 0
-statement-due P.Fresh left w e f h = never (cc)
+statement-due P.Fresh left w e f h = absurd (cc)
 statement-due P.Counted left w e f h = rw (f, lt-ltb 0 left h)
-statement-due P.Opened left w e f h = never (cc)
-statement-due P.Principals left w e f h = never (cc)
-statement-due P.Actions left w e f h = never (cc)
+statement-due P.Opened left w e f h = absurd (cc)
+statement-due P.Principals left w e f h = absurd (cc)
+statement-due P.Actions left w e f h = absurd (cc)
 statement-due P.Resources left w e f h = rw (f, lt-ltb 0 left h)
 statement-due P.Conditions left w e f h = rw (f, lt-ltb 0 left h)
-statement-due P.Ended left w e f h = never (cc)
+statement-due P.Ended left w e f h = absurd (cc)
 
 end-due : (p : Phase) (left : ℕ) (w : Bool) → is_between p ≡ true → w ≡ false → left ≡ 0 → due_in p left w K.End ≡ 0
-end-due P.Fresh left w e f h = never (cc)
+end-due P.Fresh left w e f h = absurd (cc)
 end-due P.Counted left w e f h = rw (f, eq-eqb left 0 h)
-end-due P.Opened left w e f h = never (cc)
-end-due P.Principals left w e f h = never (cc)
-end-due P.Actions left w e f h = never (cc)
+end-due P.Opened left w e f h = absurd (cc)
+end-due P.Principals left w e f h = absurd (cc)
+end-due P.Actions left w e f h = absurd (cc)
 end-due P.Resources left w e f h = rw (f, eq-eqb left 0 h)
 end-due P.Conditions left w e f h = rw (f, eq-eqb left 0 h)
-end-due P.Ended left w e f h = never (cc)
+end-due P.Ended left w e f h = absurd (cc)
 
 -- statements as the stored form has them
 abbrev Sound : List Statement → Type 0

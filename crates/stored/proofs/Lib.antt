@@ -1,5 +1,4 @@
 -- What the proofs of several functions share, and the laws for the crates above: a file for each concept.
-pub mod Lists
 pub mod Faults
 pub mod LowBits
 pub mod OperatorTable

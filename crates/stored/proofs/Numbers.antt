@@ -18,7 +18,6 @@ use Rattle.stored.specs.declared.records.Kind.{Kind}
 use Rattle.stored.specs.declared.machine.Phase.{Phase}
 use Rattle.stored.specs.declared.machine.State.{State}
 use Rattle.stored.specs.declared.writer.Writer.{Writer}
-use Rattle.stored.proofs.Choosing.{never}
 use Rattle.stored.proofs.Steps.{goes-inside}
 
 -- what the kind alone decides: nothing, or 3 for an unknown kind, or 4 or 5
@@ -32,7 +31,7 @@ due-number s k = by (is_ended s.phase) (is_unknown k) refl (leaves_empty s.waiti
   where
     by : (a b : Bool) → is_unknown k ≡ b → (c d : Bool) → DueNumber k (pick a 4 (pick b 3 (pick c 5 (pick d 0 4))))
     by true b e c d = record { low = λ h. omega arith; known = λ f h. omega arith; high = omega arith }
-    by false true e c d = record { low = λ h. omega arith; known = λ f h. never (cc); high = omega arith }
+    by false true e c d = record { low = λ h. omega arith; known = λ f h. absurd (cc); high = omega arith }
     by false false e true d = record { low = λ h. omega arith; known = λ f h. omega arith; high = omega arith }
     by false false e false true = record { low = λ h. absurd (h refl); known = λ f h. absurd (h refl); high = omega arith }
     by false false e false false = record { low = λ h. omega arith; known = λ f h. omega arith; high = omega arith }
@@ -142,7 +141,7 @@ finish-behind : (t : List ℕ) (s : State) (at n place : ℕ) → at ≤ length 
 finish-behind t s at n place h = by (is_ended s.phase)
   where
     by : (b : Bool) → pick b (A.Accepted s.rows) (A.Refused 2 at) ≡ A.Refused n place → RefusedBehind t at n place
-    by true e = never (cc)
+    by true e = absurd (cc)
     by false e =
         let two : 2 ≡ n = cc in
         let here : at ≡ place = cc in
@@ -212,7 +211,7 @@ writer-numbers w i bs room n place = by_turn (admit_item w.state i bs) (refused-
     by_size : (a b : Bool) (next : Writer) → pick a (W.Refused 1 16384) (pick b (W.Refused 14 0) (W.Added next)) ≡ W.Refused n place → Answer
     by_size true b next h = inr (inl (cc, cc))
     by_size false true next h = inr (inr (cc, cc))
-    by_size false false next h = never (cc)
+    by_size false false next h = absurd (cc)
 
     by_turn : (turn : Turn) → Numbered turn → placing w.at turn (length (record_of i bs)) room ≡ W.Refused n place → Answer
     by_turn (T.Next s) k h = by_size (ltb 16384 (w.at + length (record_of i bs))) (ltb room (w.at + length (record_of i bs))) _ h

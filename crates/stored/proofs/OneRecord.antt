@@ -1,6 +1,6 @@
 -- The round trip of one record: the record of an entry, wherever it stands, is found as that entry's, and the bytes of a found
 -- record are the record of its item.
-use Rattle.std.proofs.Common.{Option, Some, None, ℕ, zero, suc, ◌+◌, ◌-◌, ◌/◌, ◌%◌, ◌^◌, ◌≤◌, ◌<◌, ◌≡◌, refl, sym, ◌∙◌, ap, List, [], ◌∷◌, ◌++◌, arith, add-one, length, get_or, take, drop, length-append, drop-cons, lt-ltb, le-ltb, le-leb, ne_eqb}
+use Rattle.std.proofs.Common.{Some, ℕ, zero, suc, ◌+◌, ◌-◌, ◌/◌, ◌%◌, ◌^◌, ◌≤◌, ◌<◌, ◌≡◌, refl, sym, ◌∙◌, ap, List, [], ◌∷◌, ◌++◌, arith, add-one, length, get_or, take, drop, length-append, drop-cons, lt-ltb, le-ltb, le-leb, ne_eqb}
 use Rattle.std.proofs.Math.Seq.{take-append_seam, drop-append-add, get_or-append_seam}
 use Rattle.stored.specs.Machine.{Turn as T}
 use Rattle.stored.specs.Items.{effect_code, column_code, key_code, key_of}

@@ -1,9 +1,9 @@
 -- The rows of the operator table as a list, and what a search in it and a place in it give.
-use Rattle.std.proofs.Common.{Option, Some, None, ◌≡◌, refl, sym, List, [], ◌∷◌, ℕ, ◌+◌, ◌<◌, eqb, lit<, get_or, drop, eq-eqb, ne_eqb}
+use Rattle.std.proofs.Common.{Option, Some, None, ◌≡◌, refl, sym, List, [], ◌∷◌, ℕ, ◌+◌, ◌<◌, eqb, get_or, drop, ne_eqb}
 use Rattle.stored.specs.Choice.{pick}
 use Rattle.stored.specs.Operators.{row_of, operator_of}
 use Rattle.stored.specs.Machinery.OperatorTable.{row_place}
-use Rattle.stored.proofs.Lists.{left}
+use Rattle.std.proofs.lemmas.List.{drop_more}
 use Rattle.stored.specs.declared.items.Operator.{Operator}
 use Rattle.stored.specs.declared.items.Operator.TheVariants as O
 use Rattle.stored.specs.declared.operators.OperatorRow.{OperatorRow}
@@ -29,33 +29,16 @@ abbrev pub first_with : ℕ → List OperatorRow → Option Operator
 first_with code [] = None
 first_with code (row ∷ rest) = pick (eqb code row.code) (Some row.operator) (first_with code rest)
 
--- a row with the code ends the search, and another one leaves it to the rows behind
-module _ (code i : ℕ) (d : OperatorRow) (h : i < 12) where
-  pub found : (get_or rows i d).code ≡ code → first_with code (drop i rows) ≡ Some (get_or rows i d).operator
-  found e = rw (left rows i d h, eq-eqb code (get_or rows i d).code (sym e))
-
-  pub passed : ((get_or rows i d).code ≡ code → ⊥) → first_with code (drop i rows) ≡ first_with code (drop (i + 1) rows)
-  passed n = rw (left rows i d h, ne_eqb code (get_or rows i d).code (λ e. n (sym e)))
+-- a row with another code leaves the search to the rows behind
+pub passed : (code i : ℕ) (d : OperatorRow) → i < 12 → ((get_or rows i d).code ≡ code → ⊥)
+    → first_with code (drop i rows) ≡ first_with code (drop (i + 1) rows)
+passed code i d h n = rw (drop_more rows i d h, ne_eqb code (get_or rows i d).code (λ e. n (sym e)))
 
 -- the table agrees with the rule
 pub searched : (code : ℕ) → first_with code rows ≡ operator_of code
 searched code = refl
 
--- an operator's place lies in the table, and its row is there
-pub row_below : (o : Operator) → row_place o < 12
-row_below O.StringEquals = lit< tt
-row_below O.StringNotEquals = lit< tt
-row_below O.StringLike = lit< tt
-row_below O.StringNotLike = lit< tt
-row_below O.IpAddress = lit< tt
-row_below O.NotIpAddress = lit< tt
-row_below O.StringEqualsIfExists = lit< tt
-row_below O.StringNotEqualsIfExists = lit< tt
-row_below O.StringLikeIfExists = lit< tt
-row_below O.StringNotLikeIfExists = lit< tt
-row_below O.IpAddressIfExists = lit< tt
-row_below O.NotIpAddressIfExists = lit< tt
-
+-- an operator's row stands at its place in the table, whatever stood past the table's end
 pub row-there : (o : Operator) (d : OperatorRow) → get_or rows (row_place o) d ≡ row_of o
 row-there O.StringEquals d = refl
 row-there O.StringNotEquals d = refl

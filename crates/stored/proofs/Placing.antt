@@ -10,7 +10,6 @@ use Rattle.stored.specs.Entries.{Entry, item_of, bytes_of, encode, Writes}
 use Rattle.stored.specs.declared.items.Item.{Item}
 use Rattle.stored.specs.declared.machine.State.{State}
 use Rattle.stored.specs.declared.writer.Writer.{Writer}
-use Rattle.stored.proofs.Choosing.{never}
 use Rattle.stored.proofs.Accepting.{Leads}
 
 -- bytes set at a place: what is before them stands in front of them, and what is behind stays
@@ -78,8 +77,8 @@ added w i bs room next = by_turn (admit_item w.state i bs) refl
     by_size : (s : State) → admit_item w.state i bs ≡ T.Next s → (a b : Bool) → ltb 16384 n ≡ a → ltb room n ≡ b
         → pick a (W.Refused 1 16384) (pick b (W.Refused 14 0) (W.Added (record { state = s; at = n }))) ≡ W.Added next
         → Adds w i bs room next
-    by_size s e true b ha hb h = never (cc)
-    by_size s e false true ha hb h = never (cc)
+    by_size s e true b ha hb h = absurd (cc)
+    by_size s e false true ha hb h = absurd (cc)
     by_size s e false false ha hb h =
         let same : record { state = s; at = n } ≡ next = cc in
         let place : n ≡ next.at = ap (λ (x : Writer). x.at) same in
@@ -93,7 +92,7 @@ added w i bs room next = by_turn (admit_item w.state i bs) refl
     by_turn : (turn : Turn) → admit_item w.state i bs ≡ turn → placing w.at turn (length (record_of i bs)) room ≡ W.Added next
         → Adds w i bs room next
     by_turn (T.Next s) e h = by_size s e (ltb 16384 n) (ltb room n) refl refl h
-    by_turn (T.Refused m) e h = never (cc)
+    by_turn (T.Refused m) e h = absurd (cc)
 
 -- what a writer leaves after these entries
 pub record Left (w : Writer) (buffer : List ℕ) (es : List Entry) (last : Writer) (left : List ℕ) : Type 0 where

@@ -14,7 +14,6 @@ use Rattle.stored.specs.Entries.Entry.{start, statement, column, condition, netw
 use Rattle.stored.specs.declared.items.Item.TheVariants as I
 use Rattle.stored.specs.declared.machine.State.{State}
 use Rattle.stored.specs.declared.writer.Writer.{Writer}
-use Rattle.stored.proofs.Choosing.{never}
 use Rattle.stored.proofs.Walking.{inside, past, goes_on_lem, ends-cut}
 use Rattle.stored.proofs.Steps.{Taken, taken, goes-inside, steps, at-end, goes, begins}
 use Rattle.stored.proofs.Turns.{same-admit, admitted, turned}
@@ -47,7 +46,7 @@ whole_from (suc f) t s at n b h e = place (ltb at (length t)) refl (λ u p r. wh
     step (S.Goes u p) e go a =
         let k = taken s t at u p e in
         rw (entries-taken s t at u p k, go u p (goes-inside s t at u p e) a) (record-first s t at u p k b)
-    step (S.Stops m) e go a = never (cc)
+    step (S.Stops m) e go a = absurd (cc)
 
     place : (c : Bool) → ltb at (length t) ≡ c
         → ((u : State) (p : ℕ) → (at < p) × (p ≤ length t) → read_from f t u p ≡ A.Accepted n → encode (entries_from t p) ≡ drop p t)

@@ -13,7 +13,6 @@ use Rattle.stored.specs.declared.items.Item.TheVariants as I
 use Rattle.stored.specs.declared.records.Kind.TheVariants as K
 use Rattle.stored.specs.declared.machine.State.{State}
 use Rattle.stored.specs.declared.writer.Writer.{Writer}
-use Rattle.stored.proofs.Choosing.{never}
 use Rattle.stored.proofs.Walking.{inside}
 use Rattle.stored.proofs.Turns.{same-admit}
 use Rattle.stored.proofs.Steps.{turns, after, begins}
@@ -75,7 +74,7 @@ writer-refuses w e room short n few = (by_turn (admit w.state e) refl, λ h. rw 
     by_size false true h next q =
         let number : 14 ≡ n = cc in
         absurd (omega arith)
-    by_size false false h next q = never (cc)
+    by_size false false h next q = absurd (cc)
 
     by_turn : (turn : Turn) → admit w.state e ≡ turn
         → placing w.at turn (length (record_of (item_of e) (bytes_of e))) room ≡ W.Refused n w.at → admit w.state e ≡ T.Refused n

@@ -22,7 +22,7 @@ use Rattle.stored.specs.declared.items.Sort.TheVariants as O
 use Rattle.stored.specs.declared.machine.Phase.{Phase}
 use Rattle.stored.specs.declared.machine.Phase.TheVariants as P
 use Rattle.stored.specs.declared.machine.State.{State}
-use Rattle.stored.proofs.Choosing.{never, both_left, both_right}
+use Rattle.stored.proofs.Choosing.{both_left, both_right}
 use Rattle.stored.proofs.Turns.{refused-else, else-refused, admitted, sized}
 use Rattle.stored.proofs.Accepting.{Leads, is_fresh, start_first, column-fresh, took, starts, read-leads}
 use Rattle.stored.proofs.EntriesFor.{ended-none}
@@ -39,17 +39,17 @@ Holds s end = Unit {0}
 
 same-sort : (a b : Sort) → same_sort a b ≡ true → a ≡ b
 same-sort O.Text O.Text e = refl
-same-sort O.Text O.Address e = never (cc)
-same-sort O.Address O.Text e = never (cc)
+same-sort O.Text O.Address e = absurd (cc)
+same-sort O.Address O.Text e = absurd (cc)
 same-sort O.Address O.Address e = refl
 
 network-held : (sort : Sort) (a n : ℕ) → not (is_text sort) ≡ true → network_sound a n ≡ true → MayHold sort (range a n)
-network-held O.Text a n e h = never (cc)
+network-held O.Text a n e h = absurd (cc)
 network-held O.Address a n e h = h
 
 text-held : (sort : Sort) (bs : List ℕ) → is_text sort ≡ true → MayHold O.Text (text bs) → MayHold sort (text bs)
 text-held O.Text bs e h = h
-text-held O.Address bs e h = never (cc)
+text-held O.Address bs e h = absurd (cc)
 
 -- a value with no fault
 faultless : (p : Phase) (sort : Sort) (bs : List ℕ) → value_fault p sort bs ≡ 0 → MayHold sort (text bs) × (is_principals p ≡ true → IsPrincipal bs)
@@ -70,9 +70,9 @@ faultless p sort bs e =
 
     principal : (a b c : Bool) → (not a || (b || not c)) ≡ true → a ≡ true → (b ≡ true) ⊎ (c ≡ false)
     principal true true c h g = inl refl
-    principal true false true h g = never (cc)
+    principal true false true h g = absurd (cc)
     principal true false false h g = inr refl
-    principal false b c h g = never (cc)
+    principal false b c h g = absurd (cc)
 
 holds : (s : State) (e : Entry) (u : State) → admit s e ≡ T.Next u → Holds s e
 holds s e u a = by e (admitted s (item_of e) (bytes_of e) u a).1
@@ -129,7 +129,7 @@ sounded : (es : List Entry) (s last : State) → Leads s es last → is_fresh s.
 sounded [] s last l f = nothing s
 sounded (start n ∷ es) s last l f =
     let e : is_fresh s.phase ≡ true = start_first s.phase s.left (took s (start n) l.0 l.1).0 in
-    never (cc)
+    absurd (cc)
 sounded (statement x ∷ es) s last l f =
     let r = sounded es (opened_state s) last (rw (took s (statement x) l.0 l.1).1 at l.2) refl in
     let row : Statement = record { effect = x; elements = (gather es).elements; conditions = (gather es).conditions } in
@@ -171,7 +171,7 @@ sounded (network a n ∷ es) s last l f =
     let held = holds s (network a n) l.0 l.1 in
     record {
       listed = λ x i. ⊎_elim (λ (e : x ≡ range a n). subst (MayHold s.sort) (sym e) held) (r.listed x) i;
-      principals = λ h bs i. ⊎_elim (λ (e : text bs ≡ range a n). never (cc)) (r.principals h bs) i;
+      principals = λ h bs i. ⊎_elim (λ (e : text bs ≡ range a n). absurd (cc)) (r.principals h bs) i;
       elements = r.elements;
       conditions = r.conditions;
       rows = r.rows;

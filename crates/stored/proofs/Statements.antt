@@ -20,7 +20,6 @@ use Rattle.stored.specs.declared.records.Kind.TheVariants as K
 use Rattle.stored.specs.declared.machine.Phase.{Phase}
 use Rattle.stored.specs.declared.machine.Phase.TheVariants as P
 use Rattle.stored.specs.declared.machine.State.{State}
-use Rattle.stored.proofs.Choosing.{never}
 use Rattle.stored.proofs.Turns.{admitted, fills, Within, within}
 use Rattle.stored.proofs.Accepting.{Leads, is_fresh, start_first, column-fresh, column-ended, took, starts, read-leads}
 
@@ -38,8 +37,8 @@ columns_due P.Ended = []
 -- a column that comes in turn is the first of those still to come
 column-due : (p : Phase) (left : ℕ) (c : Column) → takes_kind p left K.Column ≡ true → place_due p ≡ column_place c
     → column_place c ∷ columns_due (column_phase c) ≡ columns_due p
-column-due P.Fresh left c e h = never (cc)
-column-due P.Counted left c e h = never (cc)
+column-due P.Fresh left c e h = absurd (cc)
+column-due P.Counted left c e h = absurd (cc)
 column-due P.Opened left C.Principal e h = refl
 column-due P.Opened left C.Action e h = absurd (omega arith)
 column-due P.Opened left C.Resource e h = absurd (omega arith)
@@ -58,18 +57,18 @@ column-due P.Actions left C.Resource e h = refl
 column-due P.Actions left C.NotPrincipal e h = absurd (omega arith)
 column-due P.Actions left C.NotAction e h = absurd (omega arith)
 column-due P.Actions left C.NotResource e h = refl
-column-due P.Resources left c e h = never (cc)
-column-due P.Conditions left c e h = never (cc)
-column-due P.Ended left c e h = never (cc)
+column-due P.Resources left c e h = absurd (cc)
+column-due P.Conditions left c e h = absurd (cc)
+column-due P.Ended left c e h = absurd (cc)
 
 -- where a kind comes that is neither a column nor in a list, no column is still to come
 none-due : (p : Phase) (left : ℕ) (k : Kind) → takes_kind p left k ≡ true → only_column k ≡ false → is_content k ≡ false
     → [] ≡ columns_due p
 none-due P.Fresh left k e h c = refl
 none-due P.Counted left k e h c = refl
-none-due P.Opened left k e h c = never (cc)
-none-due P.Principals left k e h c = never (cc)
-none-due P.Actions left k e h c = never (cc)
+none-due P.Opened left k e h c = absurd (cc)
+none-due P.Principals left k e h c = absurd (cc)
+none-due P.Actions left k e h c = absurd (cc)
 none-due P.Resources left k e h c = refl
 none-due P.Conditions left k e h c = refl
 none-due P.Ended left k e h c = refl
@@ -77,9 +76,9 @@ none-due P.Ended left k e h c = refl
 ended-due : (p : Phase) → is_ended p ≡ true → [] ≡ columns_due p
 ended-due P.Fresh e = refl
 ended-due P.Counted e = refl
-ended-due P.Opened e = never (cc)
-ended-due P.Principals e = never (cc)
-ended-due P.Actions e = never (cc)
+ended-due P.Opened e = absurd (cc)
+ended-due P.Principals e = absurd (cc)
+ended-due P.Actions e = absurd (cc)
 ended-due P.Resources e = refl
 ended-due P.Conditions e = refl
 ended-due P.Ended e = refl
@@ -140,14 +139,14 @@ due [] s last l d h =
       few_conditions = omega arith;
       conditions_filled = λ c i. absurd i;
       few_values = omega arith;
-      list_filled = λ w. never (cc);
+      list_filled = λ w. absurd (cc);
       well_formed = λ r i. absurd i;
     }
 due (start n ∷ es) s last l d h =
     let k = took s (start n) l.0 l.1 in
     let e : is_fresh s.phase ≡ true = start_first s.phase s.left k.0 in
     let f = h.begun in
-    never (cc)
+    absurd (cc)
 due (statement x ∷ es) s last l d h =
     let k = took s (statement x) l.0 l.1 in
     let b = besides s (statement x) l.0 l.1 in
@@ -169,7 +168,7 @@ due (statement x ∷ es) s last l d h =
       few_conditions = omega arith;
       conditions_filled = λ c i. absurd i;
       few_values = omega arith;
-      list_filled = λ w. never (cc);
+      list_filled = λ w. absurd (cc);
       well_formed = λ q i. ⊎_elim (λ (e : q ≡ row). subst WellFormed (sym e) whole) (r.well_formed q) i;
     }
 due (column c ∷ es) s last l d h =
@@ -178,7 +177,7 @@ due (column c ∷ es) s last l d h =
     let open-list : s.waiting ≡ false = not-waiting s.waiting b.0 in
     let not-ended = column-ended c in
     let r = due es (listed_state s (column_phase c) s.conditions O.Text) last (rw k.1.1 at l.2) d
-    (record { begun = column-fresh c; few_conditions = h.few_conditions; few_values = h.few_values; closed = λ e. never (cc) }) in
+    (record { begun = column-fresh c; few_conditions = h.few_conditions; few_values = h.few_values; closed = λ e. absurd (cc) }) in
     let element : Element = record { name = c; values = (gather es).values } in
     let filled : 0 < length (gather es).values = r.list_filled refl in
     record {
@@ -187,7 +186,7 @@ due (column c ∷ es) s last l d h =
       few_conditions = r.few_conditions;
       conditions_filled = r.conditions_filled;
       few_values = omega arith;
-      list_filled = λ w. never (cc);
+      list_filled = λ w. absurd (cc);
       well_formed = r.well_formed;
     }
 due (condition o q ∷ es) s last l d h =
@@ -196,7 +195,7 @@ due (condition o q ∷ es) s last l d h =
     let bound : s.conditions < 4 = b.1 in
     let open-list : s.waiting ≡ false = not-waiting s.waiting b.0 in
     let r = due es (listed_state s P.Conditions (s.conditions + 1) (row_of o).sort) last (rw k.1 at l.2) d
-    (record { begun = refl; few_conditions = omega arith; few_values = h.few_values; closed = λ e. never (cc) }) in
+    (record { begun = refl; few_conditions = omega arith; few_values = h.few_values; closed = λ e. absurd (cc) }) in
     let one : Condition = record { operator = o; key = q; values = (gather es).values } in
     let filled : 0 < length (gather es).values = r.list_filled refl in
     record {
@@ -205,7 +204,7 @@ due (condition o q ∷ es) s last l d h =
       few_conditions = omega arith;
       conditions_filled = λ y i. ⊎_elim (λ (e : y ≡ one). subst (λ (z : Condition). 0 < length z.values) (sym e) filled) (r.conditions_filled y) i;
       few_values = omega arith;
-      list_filled = λ w. never (cc);
+      list_filled = λ w. absurd (cc);
       well_formed = r.well_formed;
     }
 due (network a n ∷ es) s last l d h =

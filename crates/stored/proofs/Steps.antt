@@ -6,7 +6,6 @@ use Rattle.stored.specs.Machine.{Turn as T, Turn, fresh_state, due_of, turn_of, 
 use Rattle.stored.specs.Reading.{Step as S, ReadAnswer as A, Step, finish_of, after_turn, taken_record, taken_of, step_at, after_step, read_from, reading}
 use Rattle.stored.specs.declared.items.Item.{Item}
 use Rattle.stored.specs.declared.machine.State.{State}
-use Rattle.stored.proofs.Choosing.{never}
 use Rattle.stored.proofs.Walking.{inside, kind-agrees}
 
 -- what a step that goes on has found: a record, in turn by its kind and as a whole
@@ -21,7 +20,7 @@ pub record Taken (s : State) (t : List ℕ) (at : ℕ) (u : State) (p : ℕ) : T
 
 turned-next : (q : ℕ) (turn : Turn) (u : State) (p : ℕ) → after_turn q turn ≡ S.Goes u p → (turn ≡ T.Next u) × (p ≡ q)
 turned-next q (T.Next v) u p e = (cc, cc)
-turned-next q (T.Refused n) u p e = never (cc)
+turned-next q (T.Refused n) u p e = absurd (cc)
 
 pub taken : (s : State) (t : List ℕ) (at : ℕ) (u : State) (p : ℕ) → step_at s t at ≡ S.Goes u p → Taken s t at u p
 unfolding step_at
@@ -34,12 +33,12 @@ taken s t at u p = by-due (eqb due 0) refl
     by-record d (R.Is i begin size) e h =
         let f = turned-next (begin + size) (turn_of s i (take size (drop begin t))) u p h in
         record { item = i; begin = begin; size = size; found = e; due = d; turned = f.0; next = f.1 }
-    by-record d R.Cut e h = never (cc)
-    by-record d R.Strange e h = never (cc)
+    by-record d R.Cut e h = absurd (cc)
+    by-record d R.Strange e h = absurd (cc)
 
     by-due : (b : Bool) → eqb due 0 ≡ b → pick b (taken_of s t at) (S.Stops due) ≡ S.Goes u p → Taken s t at u p
     by-due true e h = by-record (eqb-true due 0 e) (record_at t at) refl h
-    by-due false e h = never (cc)
+    by-due false e h = absurd (cc)
 
 -- a record that is found is a step by the state machine's turn on its item
 pub turns : (s : State) (t : List ℕ) (at : ℕ) (i : Item) (begin size : ℕ) → record_at t at ≡ R.Is i begin size

@@ -18,16 +18,15 @@ use Rattle.stored.specs.declared.records.Kind.{Kind}
 use Rattle.stored.specs.declared.machine.Phase.{Phase}
 use Rattle.stored.specs.declared.machine.Phase.TheVariants as P
 use Rattle.stored.specs.declared.machine.State.{State}
-use Rattle.stored.proofs.Choosing.{never}
 
 -- a choice between a refusal and a turn that ends in a next state
 pub refused-else : (b : Bool) (m : ℕ) (x : Turn) (u : State) → pick b (T.Refused m) x ≡ T.Next u → (b ≡ false) × (x ≡ T.Next u)
-refused-else true m x u e = never (cc)
+refused-else true m x u e = absurd (cc)
 refused-else false m x u e = (refl, e)
 
 pub else-refused : (b : Bool) (x : Turn) (m : ℕ) (u : State) → pick b x (T.Refused m) ≡ T.Next u → (b ≡ true) × (x ≡ T.Next u)
 else-refused true x m u e = (refl, e)
-else-refused false x m u e = never (cc)
+else-refused false x m u e = absurd (cc)
 
 -- an item that is taken has a kind in turn, and the whole record decides the next state
 pub admitted : (s : State) (i : Item) (bs : List ℕ) (u : State) → admit_item s i bs ≡ T.Next u

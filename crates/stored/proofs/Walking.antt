@@ -10,7 +10,6 @@ use Rattle.stored.specs.declared.records.Kind.{Kind}
 use Rattle.stored.specs.declared.records.Kind.TheVariants as K
 use Rattle.stored.specs.Machine.{kind_of_item}
 use Rattle.stored.specs.Machinery.Placing.{HasKind}
-use Rattle.stored.proofs.Choosing.{never}
 use Rattle.stored.proofs.Decoding.{kind-is, same_kind, value-size}
 
 -- what a record at a place says of the bytes there
@@ -24,7 +23,7 @@ pub record Stands (t : List ℕ) (at : ℕ) (i : Item) (s n : ℕ) : Type 0 wher
 says-known : (begin size : ℕ) (d : Option Item) (i : Item) (s n : ℕ) → known begin size d ≡ R.Is i s n
     → (d ≡ Some i) × (begin ≡ s) × (size ≡ n)
 says-known begin size (Some j) i s n e = (cc, cc, cc)
-says-known begin size None i s n e = never (cc)
+says-known begin size None i s n e = absurd (cc)
 
 pub stands : (t : List ℕ) (at : ℕ) (i : Item) (s n : ℕ) → record_at t at ≡ R.Is i s n → Stands t at i s n
 unfolding record_at
@@ -35,7 +34,7 @@ stands t at i s n = outer (ltb at (length t)) refl
 
     inner : at < length t → (b : Bool) → ltb (length t - (at + 1)) (size_of k) ≡ b
         → pick b R.Cut (known (at + 1) (size_of k) (decode_of k (take (size_of k) (drop (at + 1) t)))) ≡ R.Is i s n → Stands t at i s n
-    inner low true e h = never (cc)
+    inner low true e h = absurd (cc)
     inner low false e h =
         let f : (decode_of k (take (size_of k) (drop (at + 1) t)) ≡ Some i) × (at + 1 ≡ s) × (size_of k ≡ n)
         = says-known (at + 1) (size_of k) _ i s n h in
@@ -51,7 +50,7 @@ stands t at i s n = outer (ltb at (length t)) refl
 
     outer : (b : Bool) → ltb at (length t) ≡ b → pick b (record_behind t (at + 1) k) R.Cut ≡ R.Is i s n → Stands t at i s n
     outer true e h = inner (ltb-true _ _ e) (ltb (length t - (at + 1)) (size_of k)) refl h
-    outer false e h = never (cc)
+    outer false e h = absurd (cc)
 
 -- a record lies inside the byte string
 pub inside : (t : List ℕ) (at : ℕ) (i : Item) (s n : ℕ) → record_at t at ≡ R.Is i s n

@@ -1,8 +1,7 @@
--- What the writer needs: a copy that is complete is the run of stores that the contracts speak of, and an item that the state machine takes
--- has a record.
-use Rattle.std.proofs.Common.{◌≡◌, refl, sym, ◌∙◌, ap, le_antisymm, List, [], ◌∷◌, append-nil, append_assoc, ℕ, ◌+◌, ◌≤◌, length, set, take, drop, drop_of_length-le, Bool, true, false, ◌||◌, arith, ltb, leb, eqb, ltb-false, drop-drop}
+-- What the writer needs: a record laid down in a part of the buffer is set at its place, and an item that the state machine takes has a
+-- record.
+use Rattle.std.proofs.Common.{◌≡◌, refl, sym, ◌∙◌, List, [], ◌∷◌, append-nil, append_assoc, ℕ, ◌+◌, ◌≤◌, length, set, take, drop, drop_of_length-le, Bool, true, false, ◌||◌, arith, ltb, leb, eqb, ltb-false, drop-drop}
 use Rattle.std.proofs.lemmas.List.Edits.{sets, sets-eq}
-use Rattle.std.proofs.Math.Seq.{paste, take-length}
 use Rattle.stored.specs.Choice.{pick}
 use Rattle.stored.specs.Machine.{Turn as T, due_of, kind_of_item, admit_item}
 use Rattle.stored.specs.Machinery.Placing.{HasKind}
@@ -10,11 +9,6 @@ use Rattle.stored.specs.declared.items.Item.{Item}
 use Rattle.stored.specs.declared.items.Item.TheVariants as I
 use Rattle.stored.specs.declared.machine.State.{State}
 use borrow.Rule.Slice.PartMut.{put_mid}
-
-pub pasted : (buffer : List ℕ) (at : ℕ) (bytes : List ℕ) (i : ℕ)
-    → at + length bytes ≤ length buffer → i ≤ length bytes → length bytes ≤ i → paste buffer at bytes i ≡ sets buffer at bytes
-pasted buffer at bytes i room below above =
-    rw (le_antisymm below above, take-length bytes) (sym (sets-eq bytes buffer at room))
 
 -- a part of the buffer that holds these bytes now, with what is before and behind it, is the buffer with them set at the part's place
 pub laid : (buffer : List ℕ) (at : ℕ) (bytes : List ℕ) → at + length bytes ≤ length buffer

@@ -8,7 +8,7 @@ pub enum Effect {
     Allow,
 }
 
-// The three elements of a statement, and their Not-forms.
+/// The three elements of a statement, and their Not-forms.
 #[derive(Clone, Copy, Debug, PartialEq, Eq)]
 pub enum Column {
     Principal,
@@ -19,7 +19,7 @@ pub enum Column {
     NotResource,
 }
 
-// The six operators, and their IfExists forms.
+/// The six operators, and their IfExists forms.
 #[derive(Clone, Copy, Debug, PartialEq, Eq)]
 pub enum Operator {
     StringEquals,
@@ -45,22 +45,22 @@ pub enum Key {
     SourceIp,
 }
 
-// What a key holds, and what a list of a condition on it is made of: values or networks.
+/// What a key holds, and what a list of a condition on it is made of: values or networks.
 #[derive(Clone, Copy, Debug, PartialEq, Eq)]
 pub enum Sort {
     Text,
     Address,
 }
 
-// What a record says. The bytes of a value stand beside its item.
+/// What a record says. The bytes of a value stand beside its item.
 #[derive(Clone, Copy, Debug, PartialEq, Eq)]
 pub enum Item {
-    // The number of statements.
+    /// The number of statements.
     Start(u8),
     Statement(Effect),
     Column(Column),
     Condition(Operator, Key),
-    // The address, high byte first in a record, and the prefix length.
+    /// The address, high byte first in a record, and the prefix length.
     Network(u32, u8),
     Value,
     End,
@@ -100,7 +100,7 @@ impl From<Column> for u8 {
     }
 }
 
-// Where an element stands in a statement, and which column of a request it speaks of: 0 principal, 1 action, 2 resource.
+/// Where an element stands in a statement, and which column of a request it speaks of: 0 principal, 1 action, 2 resource.
 pub fn column_place(column: Column) -> usize
     ensures { result ≡ column_place column }
 {
@@ -111,7 +111,7 @@ pub fn column_place(column: Column) -> usize
     }
 }
 
-// A Not-form.
+/// A Not-form.
 pub fn is_negated_column(column: Column) -> bool
     ensures { result ≡ column_negated column }
 {
@@ -121,7 +121,7 @@ pub fn is_negated_column(column: Column) -> bool
     )
 }
 
-// The code of a key.
+/// The code of a key.
 pub fn key_code(key: Key) -> u8
     ensures { result ≡ key_code key }
 {

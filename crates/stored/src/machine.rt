@@ -10,13 +10,13 @@ use crate::records::Kind;
 use crate::taking::take_turn;
 use refusals::Reason;
 
-// What was read last.
+/// What was read last.
 #[derive(Clone, Copy, Debug, PartialEq, Eq)]
 pub enum Phase {
     Fresh,
-    // The number of statements.
+    /// The number of statements.
     Counted,
-    // A statement, not yet its principals.
+    /// A statement, not yet its principals.
     Opened,
     Principals,
     Actions,
@@ -28,15 +28,15 @@ pub enum Phase {
 #[derive(Clone, Copy, Debug, PartialEq, Eq)]
 pub struct State {
     pub phase: Phase,
-    // Statements announced, and those still to come.
+    /// Statements announced, and those still to come.
     pub rows: u8,
     pub left: u8,
-    // Values and networks of the statement, together, and its conditions.
+    /// Values and networks of the statement, together, and its conditions.
     pub values: u8,
     pub conditions: u8,
-    // The list at hand is still empty.
+    /// The list at hand is still empty.
     pub waiting: bool,
-    // What the list at hand is made of.
+    /// What the list at hand is made of.
     pub sort: Sort,
 }
 

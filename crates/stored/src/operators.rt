@@ -8,13 +8,13 @@ use crate::items::{Operator, Sort};
 pub struct OperatorRow {
     pub code: u8,
     pub operator: Operator,
-    // The sort of key, and so of list, that it goes with.
+    /// The sort of key, and so of list, that it goes with.
     pub sort: Sort,
-    // A negated operator holds if none of its values matches.
+    /// A negated operator holds if none of its values matches.
     pub negated: bool,
-    // In its values `*` and `?` are plain bytes.
+    /// In its values `*` and `?` are plain bytes.
     pub literal: bool,
-    // What it says of an absent key.
+    /// What it says of an absent key.
     pub absent: bool,
 }
 
@@ -117,7 +117,7 @@ const OPERATORS: [OperatorRow; 12] = [
     },
 ];
 
-// The row of an operator. The rows stand in the order of the operators.
+/// The row of an operator. The rows stand in the order of the operators.
 pub fn operator_row(operator: Operator) -> OperatorRow
     ensures { result ≡ row_of operator }
 {

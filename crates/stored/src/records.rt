@@ -14,12 +14,12 @@ pub enum Kind {
     Condition,
     End,
     Network,
-    // A value of so many bytes.
+    /// A value of so many bytes.
     Value(usize),
     Unknown,
 }
 
-// The record at a place: its item, where its body starts and how long that is (the next record is behind it).
+/// The record at a place: its item, where its body starts and how long that is (the next record is behind it).
 #[derive(Clone, Copy, Debug, PartialEq, Eq)]
 pub struct Record {
     pub item: Item,
@@ -27,12 +27,12 @@ pub struct Record {
     pub size: usize,
 }
 
-// Why no record is at a place.
+/// Why no record is at a place.
 #[derive(Clone, Copy, Debug, PartialEq, Eq)]
 pub enum RecordFault {
-    // The bytes end inside it or before it.
+    /// The bytes end inside it or before it.
     Cut,
-    // Its kind or one of its codes is unknown.
+    /// Its kind or one of its codes is unknown.
     Strange,
 }
 
@@ -50,14 +50,14 @@ impl From<RecordFault> for Reason {
     }
 }
 
-// The byte at an index, 0 past the end.
+/// The byte at an index, 0 past the end.
 pub fn byte_at(bytes: &[u8], i: usize) -> u8
     ensures { result ≡ get_or bytes.now i 0 }
 {
     bytes.get(i).copied().unwrap_or(0)
 }
 
-// The kind that a byte stands for.
+/// The kind that a byte stands for.
 pub fn kind_of(byte: u8) -> Kind
     ensures { result ≡ kind_of byte }
 {
@@ -73,7 +73,7 @@ pub fn kind_of(byte: u8) -> Kind
     }
 }
 
-// The size of the body that a kind has.
+/// The size of the body that a kind has.
 pub fn size_of(kind: Kind) -> usize
     ensures { result ≡ size_of kind }
 {
@@ -167,7 +167,7 @@ fn record_behind(table: &[u8], start: usize, kind: Kind) -> Result<Record, Recor
     }
 }
 
-// The record at a place of any byte string.
+/// The record at a place of any byte string.
 #[tactic(auto, unfolding(crate::specs::Records::record_at))]
 pub fn record_at(table: &[u8], at: usize) -> Result<Record, RecordFault>
     ensures { as_record result ≡ record_at table.now at }

@@ -1,5 +1,5 @@
 -- `stored::machine::admit` meets its contract: what the kind decides comes first, then what the whole record decides, as in `admit_item`.
-use Rattle.std.proofs.Common.{sym, ap, ◌∙◌}
+use Rattle.std.proofs.Common.{ap, ◌∙◌}
 use Rattle.std.proofs.lemmas.Result.{err_from_is_err_and}
 use Rattle.stored.specs.Machine.{due_of, admit_item}
 use Rattle.stored.proofs.Faults.{numbered}

@@ -1,5 +1,4 @@
 -- `stored::reader::step_at` meets its contract: the test is that of `step_at`.
-use Rattle.std.proofs.Common.{sym, ap, ◌∙◌}
 use Rattle.std.proofs.lemmas.Result.{err_from_is_err_and}
 use Rattle.stored.specs.Reading.{step_at}
 use Rattle.stored.proofs.Faults.{numbered}

@@ -1,5 +1,5 @@
 -- `stored::reader::taken` meets its contract: a record lies inside the table, so that its body is a part of it.
-use Rattle.std.proofs.Common.{sym, ap, ◌∙◌, arith}
+use Rattle.std.proofs.Common.{sym, arith}
 use Rattle.std.proofs.Math.Nat.{add-sub_cancel_left}
 use Rattle.stored.proofs.Walking.{inside}
 use Rattle.stored.proofs.reader.taken.Goals as goal
