@@ -1,4 +1,3 @@
 -- Laws behind the gap program's contracts.
 pub mod Splitting
-pub mod ShortValues
 pub mod Promises

@@ -6,8 +6,7 @@ use Rattle.judging.specs.Requests.{absent, text, number}
 use Rattle.judging.specs.Judging.{rows_of}
 use Rattle.comparing.specs.Gaps.{IsGap}
 use Rattle.comparing.specs.Compared.{request_shown, Shown}
-use Rattle.comparing.specs.declared.answers.Shape.{Shape}
-use Rattle.comparing.specs.declared.answers.Showing.TheVariants as S
+use Rattle.comparing.specs.Answers.{Shape, Showing as S}
 use Rattle.gaps.specs.Split.{passed_at, first_end}
 use Rattle.json_text.specs.Texts.{ascii}
 use Rattle.printing.specs.Decimals.{decimal_of}

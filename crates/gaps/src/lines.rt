@@ -1,13 +1,15 @@
 // The lines that the gap program prints, laid out in a lent buffer.
-ghost use Rattle.std.specs.Prelude.{◌≡◌, ◌++◌, ◌+◌, ◌≤◌, ◌<◌, length, take};
+ghost use Rattle.std.specs.Prelude.{◌≡◌, ◌++◌, ◌+◌, ◌≤◌, ◌<◌, length, is_some, unwrap_or};
 ghost use Rattle.judging.specs.Requests.{key_value, number, absent};
 ghost use Rattle.stored.specs.Choice.{pick};
 ghost use Rattle.gaps.specs.Lines.{dotted, count_line, refusal_line, shown, needed_shown, keys_shown, gap_line};
 ghost use Rattle.json_text.specs.Texts.{ascii};
 ghost use Rattle.printing.specs.Laying.{Laid};
+ghost use Rattle.refusals.specs.Numbers.{number_of};
+ghost use Rattle.comparing.specs.Answers.{table_of, as_shape};
 ghost use Rattle.comparing.specs.Compared.{shown_bytes, request_shown};
 
-use comparing::answers::Shape;
+use comparing::answers::{Refused, Shape};
 use printing::{put, put_decimal, put_named, put_number};
 
 // Bytes that a line has at most.
@@ -24,37 +26,18 @@ fn put_dotted(out: &mut [u8], at: usize, address: u32) -> usize
     put_number(out, third, b".", (address % 0x100) as u64)
 }
 
-// Lays a column's value down behind its name, where it is there.
-fn put_key(out: &mut [u8], at: usize, name: &[u8], present: bool, value: &[u8]) -> usize
-    requires { at + (length name.now + length value.now) ≤ length out.old }
-    ensures { Laid out.old at (shown name.now (key_value present value.now)) (length name.now + length value.now) out.new result }
-{
-    if present {
-        return put_named(out, at, name, value);
-    }
-    at
-}
-
 // Lays the address down behind its name, where it is there.
-fn put_address(out: &mut [u8], at: usize, present: bool, address: u32) -> usize
+fn put_address(out: &mut [u8], at: usize, address: Option<u32>) -> usize
     requires { at + 87 ≤ length out.old }
-    ensures { Laid out.old at (shown (ascii " ip=") (pick present (number address) absent)) 87 out.new result }
+    ensures { Laid out.old at (shown (ascii " ip=") (pick (is_some address) (number (unwrap_or address 0)) absent)) 87 out.new result }
 {
-    if present {
-        let next = put(out, at, b" ip=");
-        return put_dotted(out, next, address);
+    match address {
+        Some(address) => {
+            let next = put(out, at, b" ip=");
+            put_dotted(out, next, address)
+        }
+        None => at,
     }
-    at
-}
-
-// The first so many bytes, or all where there are fewer.
-fn first_bytes(bytes: &[u8], size: usize) -> &[u8]
-    ensures { result.now ≡ take size bytes.now }
-{
-    if size < bytes.len() {
-        return &bytes[..size];
-    }
-    bytes
 }
 
 // A value of one of columns 0 to 6 in the value buffer.
@@ -62,9 +45,8 @@ fn value_in(values: &[u8], column: usize, size: usize) -> &[u8]
     requires { (3584 ≤ length values.now) × (column < 7) }
     ensures { (result.now ≡ shown_bytes values.now column size) × (length result.now ≤ 512) }
 {
-    let start = column * 512;
-    let end = start + 512;
-    first_bytes(&values[start..end], size)
+    let room = &values[column * 512..column * 512 + 512];
+    &room[..size.min(room.len())]
 }
 
 // Lays the value of a column down behind its name, where it is there.
@@ -72,15 +54,17 @@ fn put_column(
     out: &mut [u8],
     at: usize,
     name: &[u8],
-    present: bool,
     values: &[u8],
     column: usize,
-    size: usize,
+    size: Option<usize>,
 ) -> usize
     requires { (at + (length name.now + 512) ≤ length out.old) × (3584 ≤ length values.now) × (column < 7) }
-    ensures { Laid out.old at (shown name.now (key_value present (shown_bytes values.now column size))) (length name.now + 512) out.new result }
+    ensures { Laid out.old at (shown name.now (key_value (is_some size) (shown_bytes values.now column (unwrap_or size 0)))) (length name.now + 512) out.new result }
 {
-    put_key(out, at, name, present, value_in(values, column, size))
+    match size {
+        Some(size) => put_named(out, at, name, value_in(values, column, size)),
+        None => at,
+    }
 }
 
 // The line for a number of gaps.
@@ -93,55 +77,47 @@ pub fn count_line(out: &mut [u8], n: u64) -> usize
 }
 
 // The line for a refusal.
-pub fn refusal_line(out: &mut [u8], number: u8, table: u8, place: usize) -> usize
+pub fn refusal_line(out: &mut [u8], refused: Refused) -> usize
     requires { 4096 ≤ length out.old }
-    ensures { Laid out.old 0 (refusal_line number table place) 71 out.new result }
+    ensures { Laid out.old 0 (refusal_line (number_of refused.reason) (table_of refused.table) refused.place) 71 out.new result }
 {
-    let first = put_number(out, 0, b"refused ", number as u64);
-    let second = put_number(out, first, b" ", table as u64);
-    let third = put_number(out, second, b" ", place as u64);
+    let number = u8::from(refused.reason);
+    let table = u8::from(refused.table);
+    let first = put_number(out, 0, b"refused ", u64::from(number));
+    let second = put_number(out, first, b" ", u64::from(table));
+    let third = put_number(out, second, b" ", refused.place as u64);
     put(out, third, b"\n")
 }
 
 // Lays columns 0 to 2 down.
 fn put_needed(out: &mut [u8], at: usize, values: &[u8], shape: Shape) -> usize
     requires { (at + 1545 ≤ length out.old) × (3584 ≤ length values.now) }
-    ensures { Laid out.old at (needed_shown (request_shown shape values.now)) 1545 out.new result }
+    ensures { Laid out.old at (needed_shown (request_shown (as_shape shape) values.now)) 1545 out.new result }
 {
-    let principal = put_column(out, at, b" p=", true, values, 0, shape.principal);
-    let action = put_column(out, principal, b" a=", true, values, 1, shape.action);
-    put_column(out, action, b" r=", true, values, 2, shape.resource)
+    let principal = put_column(out, at, b" p=", values, 0, Some(shape.principal));
+    let action = put_column(out, principal, b" a=", values, 1, Some(shape.action));
+    put_column(out, action, b" r=", values, 2, Some(shape.resource))
 }
 
 // Lays columns 3 to 6 down.
 fn put_keys(out: &mut [u8], at: usize, values: &[u8], shape: Shape) -> usize
     requires { (at + 2064 ≤ length out.old) × (3584 ≤ length values.now) }
-    ensures { Laid out.old at (keys_shown (request_shown shape values.now)) 2064 out.new result }
+    ensures { Laid out.old at (keys_shown (request_shown (as_shape shape) values.now)) 2064 out.new result }
 {
-    let present = shape.present;
-    let vpc = put_column(out, at, b" k0=", present.vpc, values, 3, shape.vpc);
-    let prefix = put_column(out, vpc, b" k1=", present.prefix, values, 4, shape.prefix);
-    let vpce = put_column(out, prefix, b" k2=", present.vpce, values, 5, shape.vpce);
-    put_column(
-        out,
-        vpce,
-        b" k3=",
-        present.referer,
-        values,
-        6,
-        shape.referer,
-    )
+    let vpc = put_column(out, at, b" k0=", values, 3, shape.vpc);
+    let prefix = put_column(out, vpc, b" k1=", values, 4, shape.prefix);
+    let vpce = put_column(out, prefix, b" k2=", values, 5, shape.vpce);
+    put_column(out, vpce, b" k3=", values, 6, shape.referer)
 }
 
 // The line for gap k, whose values stand in the value buffer.
 pub fn gap_line(out: &mut [u8], k: u64, values: &[u8], shape: Shape) -> usize
     requires { (4096 ≤ length out.old) × (3584 ≤ length values.now) }
-    ensures { Laid out.old 0 (gap_line k (request_shown shape values.now)) 4096 out.new result }
+    ensures { Laid out.old 0 (gap_line k (request_shown (as_shape shape) values.now)) 4096 out.new result }
 {
-    let present = shape.present;
     let number = put_decimal(out, 0, k);
     let needed = put_needed(out, number, values, shape);
     let keys = put_keys(out, needed, values, shape);
-    let address = put_address(out, keys, present.address, shape.address);
+    let address = put_address(out, keys, shape.address);
     put(out, address, b"\n")
 }

@@ -2,47 +2,40 @@
 ghost use Rattle.std.specs.Prelude.{◌≡◌, ◌≤◌, ◌<◌, length};
 ghost use Rattle.gaps.specs.Split.{behind_body, passed_kind, passed_at, first_end};
 
+use std::ops::ControlFlow;
 use stored::records::{Kind, byte_at, kind_of, size_of};
 
-// What passing one record leads to.
-#[derive(Clone, Copy)]
-pub enum Passed {
-    // The next record stands here.
-    Goes(usize),
-    // The first table ends here.
-    Ends(usize),
-}
-
-// Passes a body of some size that starts at a place.
-fn pass_body(input: &[u8], start: usize, size: usize) -> Passed
+// Passes a body of some size that starts at a place: the next record stands behind it, or the first table ends with the input.
+fn pass_body(input: &[u8], start: usize, size: usize) -> ControlFlow<usize, usize>
     requires { start ≤ length input.now }
     ensures { result ≡ behind_body input.now start size }
 {
     if input.len() - start < size {
-        return Passed::Ends(input.len());
+        ControlFlow::Break(input.len())
+    } else {
+        ControlFlow::Continue(start + size)
     }
-    Passed::Goes(start + size)
 }
 
 // Passes a record of a kind, with a body of some size that starts at a place.
-fn pass_kind(input: &[u8], start: usize, size: usize, kind: Kind) -> Passed
+fn pass_kind(input: &[u8], start: usize, size: usize, kind: Kind) -> ControlFlow<usize, usize>
     requires { start ≤ length input.now }
     ensures { result ≡ passed_kind input.now start size kind }
 {
     match kind {
-        Kind::Start => pass_body(input, start, size),
-        Kind::Statement => pass_body(input, start, size),
-        Kind::Column => pass_body(input, start, size),
-        Kind::Condition => pass_body(input, start, size),
-        Kind::End => Passed::Ends(start),
-        Kind::Network => pass_body(input, start, size),
-        Kind::Value(_) => pass_body(input, start, size),
-        Kind::Unknown => Passed::Ends(input.len()),
+        Kind::End => ControlFlow::Break(start),
+        Kind::Unknown => ControlFlow::Break(input.len()),
+        Kind::Start
+        | Kind::Statement
+        | Kind::Column
+        | Kind::Condition
+        | Kind::Network
+        | Kind::Value(_) => pass_body(input, start, size),
     }
 }
 
 // Passes the record at a place.
-fn pass(input: &[u8], at: usize) -> Passed
+fn pass(input: &[u8], at: usize) -> ControlFlow<usize, usize>
     requires { at < length input.now }
     ensures { result ≡ passed_at input.now at }
 {
@@ -58,12 +51,8 @@ pub fn split(input: &[u8]) -> usize
     let mut at: usize = 0;
     while at < input.len() {
         match pass(input, at) {
-            Passed::Goes(next) => {
-                at = next;
-            }
-            Passed::Ends(end) => {
-                return end;
-            }
+            ControlFlow::Continue(next) => at = next,
+            ControlFlow::Break(end) => return end,
         }
     }
     input.len()
