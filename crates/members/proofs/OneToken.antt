@@ -8,7 +8,7 @@ use Rattle.json_text.specs.declared.events.Event.TheVariants as E
 use Rattle.json_text.specs.declared.tokens.Mark.{Mark}
 use Rattle.json_text.specs.declared.tokens.Token.{Token as Met}
 use Rattle.members.specs.Members.Verdict.{fine}
-use Rattle.members.specs.Machinery.Levels.{outside, in_rows, in_strings, turn_in, after_turn, judge, placed}
+use Rattle.members.specs.Machinery.Levels.{turn_in, after_turn, judge, placed}
 use Rattle.members.specs.Answers.{Checked as C}
 use Rattle.members.specs.Machinery.States.{Level}
 use Rattle.members.specs.Machinery.States.{Level as L}
@@ -31,34 +31,6 @@ deaf L.PrincipalStrings s x = (refl, refl, refl, refl, refl)
 deaf L.Operators s x = (refl, refl, refl, refl, refl)
 deaf L.Keys s x = (refl, refl, refl, refl, refl)
 deaf L.KeyStrings s x = (refl, refl, refl, refl, refl)
-
--- outside, between statements and in a list of strings the bytes do not matter
-pub outside-deaf : (s : State) (e : Event) (x y : List ℕ) → outside s e x ≡ outside s e y
-outside-deaf s E.Name x y = refl
-outside-deaf s E.Text x y = refl
-outside-deaf s E.Other x y = refl
-outside-deaf s E.OpenList x y = refl
-outside-deaf s E.CloseList x y = refl
-outside-deaf s E.OpenObject x y = refl
-outside-deaf s E.CloseObject x y = refl
-
-pub rows-deaf : (s : State) (e : Event) (x y : List ℕ) → in_rows s e x ≡ in_rows s e y
-rows-deaf s E.Name x y = refl
-rows-deaf s E.Text x y = refl
-rows-deaf s E.Other x y = refl
-rows-deaf s E.OpenList x y = refl
-rows-deaf s E.CloseList x y = refl
-rows-deaf s E.OpenObject x y = refl
-rows-deaf s E.CloseObject x y = refl
-
-pub strings-deaf : (back : Level) (s : State) (e : Event) (x y : List ℕ) → in_strings back s e x ≡ in_strings back s e y
-strings-deaf back s E.Name x y = refl
-strings-deaf back s E.Text x y = refl
-strings-deaf back s E.Other x y = refl
-strings-deaf back s E.OpenList x y = refl
-strings-deaf back s E.CloseList x y = refl
-strings-deaf back s E.OpenObject x y = refl
-strings-deaf back s E.CloseObject x y = refl
 
 meets : (e : Event) (n : ℕ) (s : List ℕ) (ts : List Token) (st : State)
     → judge (mark e n s ts) st ≡ after_turn (judge ts) n (turn_in st.level st e (content_of s))

@@ -13,12 +13,8 @@ use Rattle.records.specs.Wishes.{Wish, string_wish}
 use Rattle.records.specs.Wishes.Wish.{made}
 use Rattle.records.specs.Machinery.Streams as Streams
 use Rattle.records.specs.Machinery.Streams.{values_from, conditions_from}
-use Rattle.records.specs.Machinery.Cursors.{wish_of, string_kind, hold_of, hold_turn, spot_of, spot_turn}
+use Rattle.records.specs.Machinery.Cursors.{wish_of, string_kind, spot_of, spot_turn}
 use Rattle.records.specs.declared.wishes.Wish.TheVariants as W
-use Rattle.records.specs.declared.values.Hold.{Hold}
-use Rattle.records.specs.declared.values.Hold.TheVariants as H
-use Rattle.records.specs.declared.values.Heard.{Heard}
-use Rattle.records.specs.declared.values.Heard.TheVariants as Hd
 use Rattle.records.specs.declared.conditions.Spot.{Spot}
 use Rattle.records.specs.declared.conditions.Spot.TheVariants as Sp
 use Rattle.records.specs.declared.conditions.Turned.{Turned}
@@ -28,30 +24,6 @@ module _ (t : List ℕ) (r : List Wish) (ts : List Token) (at : ℕ) where
   -- the tokens from one at a place on
   abbrev pub tokens : Event → List Token
   tokens e = mark e (length t - at) (drop (at + 1) t) ts
-
-  abbrev pub after_heard : Option Heard → List Wish
-  after_heard (Some (Hd.On h)) = values_from So.Text r ts (hold_of t h)
-  after_heard (Some Hd.Alone) = wish_of t W.Value at ∷ r
-  after_heard (Some Hd.Listed) = wish_of t W.Value at ∷ values_from So.Text r ts Streams.Hold.filled
-  after_heard (Some (Hd.Empty p)) = wish_of t W.Empty p ∷ r
-  after_heard None = r
-
-  hears-one : (e : Event) (h : Hold) → values_from So.Text r (tokens e) (hold_of t h) ≡ after_heard (hold_turn h e at)
-  hears-one E.Name h = refl
-  hears-one E.Text H.Outside = refl
-  hears-one E.Text (H.Fresh p) = refl
-  hears-one E.Text H.Filled = refl
-  hears-one E.Other h = refl
-  hears-one E.OpenList h = refl
-  hears-one E.CloseList H.Outside = refl
-  hears-one E.CloseList (H.Fresh p) = refl
-  hears-one E.CloseList H.Filled = refl
-  hears-one E.OpenObject h = refl
-  hears-one E.CloseObject h = refl
-
-  pub hears : (us : List Token) (e : Event) (h : Hold) {x : Option Heard} → us ≡ tokens e → hold_turn h e at ≡ x
-      → values_from So.Text r us (hold_of t h) ≡ after_heard x
-  hears us e h met turn = ap (λ (vs : List Token). values_from So.Text r vs (hold_of t h)) met ∙ hears-one e h ∙ ap after_heard turn
 
   -- the tokens, from this one on, are wanted where the walk stays
   abbrev pub after_turned : List Token → Option Turned → List Wish

@@ -1,5 +1,4 @@
 pub mod Wished
-pub mod Meeting
 pub mod Seeking
 pub mod Sighting
 pub mod Hearing

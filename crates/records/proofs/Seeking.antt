@@ -1,59 +1,12 @@
 -- What a walk to a member finds: token by token, and in a tree's tokens.
-use Rattle.std.proofs.Common.{ℕ, ◌+◌, ◌-◌, ◌≤◌, Bool, true, false, ◌≡◌, refl, ◌∙◌, ap, List, arith, eqb, ne_eqb}
+use Rattle.std.proofs.Common.{ℕ, ◌+◌, ◌-◌, Bool, true, false, ◌≡◌, refl, ◌∙◌, List, arith, eqb, ne_eqb}
 use Rattle.json_text.specs.Choice.{pick}
 use Rattle.json_text.specs.Trees.{Shape, Tree}
 use Rattle.json_text.specs.Trees.Shape.{one, several, named}
 use Rattle.json_text.specs.Trees.Tree.{text, other, list, object, end_list, element, end_object, member}
-use Rattle.json_text.specs.Machinery.Pieces.{content_of}
-use Rattle.json_text.specs.Machinery.Tokens.{Token, mark, flat}
-use Rattle.json_text.specs.declared.events.Event.{Event}
-use Rattle.json_text.specs.declared.events.Event.TheVariants as E
-use Rattle.records.specs.Machinery.Walkers.{Sought, Moved, Moved as M, seek_turn, after_move, seek}
+use Rattle.json_text.specs.Machinery.Tokens.{Token, flat}
+use Rattle.records.specs.Machinery.Walkers.{Sought, Moved as M, after_move, seek}
 use Rattle.records.specs.Machinery.Walkers.Sought.{none, found}
-
--- one token changes the depth by one at most
-abbrev pub depth_of : Moved → ℕ
-depth_of (M.On d) = d
-depth_of M.Gone = 0
-depth_of (M.Here k) = 0
-
-pub near : (kind_of : List ℕ → ℕ) (slot_of : ℕ → ℕ) (slot d : ℕ) (e : Event) (x : List ℕ) → depth_of (seek_turn kind_of slot_of slot d e x) ≤ d + 1
-near kind_of slot_of slot d E.Name x = by (eqb d 0) (eqb (slot_of (kind_of x)) slot)
-  where
-    by : (a b : Bool) → depth_of (pick a (pick b (M.Here (kind_of x)) (M.On d)) (M.On d)) ≤ d + 1
-    by true true = omega arith
-    by true false = omega arith
-    by false b = omega arith
-near kind_of slot_of slot d E.Text x = omega arith
-near kind_of slot_of slot d E.Other x = omega arith
-near kind_of slot_of slot d E.OpenList x = omega arith
-near kind_of slot_of slot d E.CloseList x = by (eqb d 0)
-  where
-    by : (a : Bool) → depth_of (pick a M.Gone (M.On (d - 1))) ≤ d + 1
-    by true = omega arith
-    by false = omega arith
-near kind_of slot_of slot d E.OpenObject x = omega arith
-near kind_of slot_of slot d E.CloseObject x = by (eqb d 0)
-  where
-    by : (a : Bool) → depth_of (pick a M.Gone (M.On (d - 1))) ≤ d + 1
-    by true = omega arith
-    by false = omega arith
-
-meets : (kind_of : List ℕ → ℕ) (slot_of : ℕ → ℕ) (slot : ℕ) (e : Event) (n : ℕ) (s : List ℕ) (ts : List Token) (d : ℕ)
-    → seek kind_of slot_of slot (mark e n s ts) d ≡ after_move (seek kind_of slot_of slot ts) ts (seek_turn kind_of slot_of slot d e (content_of s))
-meets kind_of slot_of slot E.Name n s ts d = refl
-meets kind_of slot_of slot E.Text n s ts d = refl
-meets kind_of slot_of slot E.Other n s ts d = refl
-meets kind_of slot_of slot E.OpenList n s ts d = refl
-meets kind_of slot_of slot E.CloseList n s ts d = refl
-meets kind_of slot_of slot E.OpenObject n s ts d = refl
-meets kind_of slot_of slot E.CloseObject n s ts d = refl
-
--- one token of the walk
-pub moves : (kind_of : List ℕ → ℕ) (slot_of : ℕ → ℕ) (slot : ℕ) (us : List Token) (e : Event) (n : ℕ) (s : List ℕ) (ts : List Token) (d : ℕ) {x : Moved}
-    → us ≡ mark e n s ts → seek_turn kind_of slot_of slot d e (content_of s) ≡ x → seek kind_of slot_of slot us d ≡ after_move (seek kind_of slot_of slot ts) ts x
-moves kind_of slot_of slot us e n s ts d met turn =
-    ap (λ (vs : List Token). seek kind_of slot_of slot vs d) met ∙ meets kind_of slot_of slot e n s ts d ∙ ap (after_move (seek kind_of slot_of slot ts) ts) turn
 
 abbrev inside : Shape → ℕ → ℕ
 inside one d = d

@@ -18,7 +18,6 @@ use Rattle.records.specs.Machinery.Streams.{effect_on, statement_from, document_
 use Rattle.records.specs.Machinery.Cursors.{wish_of, effect_said, effect_by, wishes_left, first_cursor}
 use Rattle.records.specs.declared.wishes.Wish as Code
 use Rattle.records.specs.declared.wishes.Wish.TheVariants as W
-use Rattle.records.proofs.Meeting.{nothing_left}
 
 -- no bytes are neither effect
 no-effect : (n : ℕ) → effect_wish n [] ≡ strange n
@@ -26,7 +25,9 @@ unfolding allow_text deny_text
 no-effect n = refl
 
 pub no-effect-left : (t : List ℕ) → effect_wish 0 [] ≡ strange (length t - length t)
-no-effect-left t = no-effect 0 ∙ ap strange (sym (nothing_left t))
+no-effect-left t =
+    let nothing : length t - length t ≡ 0 = omega arith in
+    no-effect 0 ∙ ap strange (sym nothing)
 
 said : (t bs : List ℕ) (at : ℕ) → effect_wish (length t - at) bs ≡ wish_of t (effect_said bs) at
 said t bs at = by (same_bytes bs allow_text) (same_bytes bs deny_text)
