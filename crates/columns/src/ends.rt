@@ -60,6 +60,7 @@ fn plan_edge(plan: &[u64], x: u64) -> u64
 }
 
 /// The least end of a network of either table above an address, 2 ^ 32 if there is none.
+// stays: what may not change next_edge: it asks less of both tables than `Tables` does.
 pub fn next_edge(words: &[u64], first: &[u8], second: &[u8], plans: Plans, x: u64) -> u64
     requires { Accepted (entries_of first.now) × Accepted (entries_of second.now) × AddressPlans first.now second.now words.now plans
         × (prints_at ≤ length words.now) }

@@ -128,7 +128,7 @@ fn lay_plan(
 
 /// Lays the plans of both tables down, one behind the other, in the place of the codes, which are not needed once the states are found. The
 /// positions of the second table's values begin at a place.
-// stays: what may not change lays either plan of any column, of tables that need not have been read.
+// stays: what may not change lay_plans: it lays either plan of any column down, `strings` or not, for tables that need not have been read.
 pub fn lay_plans(
     words: &mut [u64],
     first: &[u8],

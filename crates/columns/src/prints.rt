@@ -40,6 +40,7 @@ fn joined(own: u64, other: u64, size: u64) -> u64
 }
 
 /// The footprint of an absent column.
+// stays: what may not change absent_print: it asks less of both tables than `Tables` does.
 pub fn absent_print(first: &[u8], second: &[u8], column: usize, size: u64) -> u64
     requires { (length (rows_of first.now) ≤ 32) × (length (rows_of second.now) ≤ 32) × (size ≡ length (rows_of first.now)) }
     ensures { result ≡ rows_word (holds column absent) (rows_of first.now ++ rows_of second.now) }

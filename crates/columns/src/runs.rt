@@ -6,8 +6,9 @@ ghost use Rattle.columns.specs.Machinery.Plan.{statement_word, in_network, fresh
 
 use matching::state::has_position;
 
-// The words of a plan: a statement begins, a list of the column opens, a negated one does, and from FIRST_VALUE on the last position of a
-// value.
+/// The words of a plan: a statement begins, a list of the column opens, a negated one does, and from FIRST_VALUE on the last position of a
+/// value.
+// stays: project rule (a plan lies in the lent workspace, which is made of numbers).
 pub const STATEMENT: u64 = 1;
 
 pub const LIST: u64 = 2;
@@ -16,6 +17,8 @@ pub const NEGATED_LIST: u64 = 3;
 
 pub const FIRST_VALUE: u64 = 4;
 
+/// What is known at a word of a plan.
+// stays: no plainer as one form with judging's Walk, which also knows whether a list is of the column and how it is read.
 #[derive(Clone, Copy, Debug, PartialEq, Eq)]
 pub struct Run {
     // The bit of the row at hand, and of the next one.
