@@ -1,10 +1,7 @@
 -- A statement applies exactly when it holds in each of the eight columns: every list speaks of one column, and is no restriction in the
 -- seven others.
-use Prim.Native.Nat.{ℕ, zero, suc, ◌+◌}
-use mathlib.Core.Path.{◌≡◌, refl, sym, ◌∙◌, ap, ap₂}
-use mathlib.Core.Bool.{Bool, true, false, ◌&&◌, and-true}
-use mathlib.Core.List.{List, [], ◌∷◌}
-use lib.Dec.{eqb}
+use Rattle.std.proofs.Common.{ℕ, zero, suc, ◌+◌, ◌≡◌, refl, sym, ◌∙◌, ap, ap₂, Bool, true, false, ◌&&◌, List, [], ◌∷◌, eqb}
+use mathlib.Core.Bool.{and-true}
 use Rattle.stored.specs.Choice.{pick, every}
 use Rattle.stored.specs.Items.{column_place, key_code}
 use Rattle.stored.specs.Tables.{Statement}

@@ -1,6 +1,5 @@
 -- Refusal 9: the lowest faulty column is found by looking at the columns in turn.
-use Rattle.std.proofs.Common.{ℕ, ◌+◌, ◌<◌, ◌≤◌, ◌≡◌, refl, sym, ◌∙◌, ap, Bool, true, false, List, Some, None, length, drop, drop-cons, ltb, add-one}
-use borrow.Author.Tests.{ltb-false, lt-ltb}
+use Rattle.std.proofs.Common.{ℕ, ◌+◌, ◌<◌, ◌≤◌, ◌≡◌, refl, sym, ◌∙◌, ap, Bool, true, false, List, Some, None, length, drop, drop-cons, ltb, add-one, ltb-false, lt-ltb}
 use Rattle.stored.specs.Choice.{pick}
 use Rattle.judging.specs.Requests.{Value, absent, columns, column_of, is_faulty, first_fault, fault_of}
 

@@ -1,11 +1,6 @@
 -- What judging promises, in statements that can be read without their proofs. `judgement` is what the judge answers, `reading` what the
 -- reader answers, `rows_of` the statements of a table, `first_fault` the lowest faulty column of a request, or 8.
-use Prim.Native.Nat.{ℕ, ◌<◌}
-use mathlib.Core.Path.{◌≡◌, refl, sym, ◌∙◌}
-use mathlib.Core.Bool.{Bool, true, false, not, ◌&&◌, ◌||◌}
-use mathlib.Core.List.{List, [], ◌∷◌, map}
-use mathlib.Core.Logic.{◌↔◌}
-use native.Mathlib.Omega.{arith}
+use Rattle.std.proofs.Common.{ℕ, ◌<◌, ◌≡◌, refl, sym, ◌∙◌, Bool, true, false, not, ◌&&◌, ◌||◌, List, [], ◌∷◌, map, ◌↔◌, arith}
 use Rattle.stored.specs.Choice.{pick, some}
 use Rattle.stored.specs.Reading.{ReadAnswer as A, reading}
 use Rattle.stored.specs.Tables.{Listed, Statement}

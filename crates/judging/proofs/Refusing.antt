@@ -1,8 +1,5 @@
 -- The judge's answer part by part: the table's refusal, then 9 at the lowest faulty column, then the verdict.
-use Prim.Native.Nat.{ℕ, ◌<◌, ◌≤◌}
-use mathlib.Core.Path.{◌≡◌}
-use mathlib.Core.List.{List}
-use borrow.Author.Tests.{lt-ltb, le-ltb}
+use Rattle.std.proofs.Common.{ℕ, ◌<◌, ◌≤◌, ◌≡◌, List, lt-ltb, le-ltb}
 use Rattle.stored.specs.Reading.{ReadAnswer as A, reading}
 use Rattle.stored.specs.Tables.{Statement}
 use Rattle.judging.specs.Requests.{Value, first_fault, columns}

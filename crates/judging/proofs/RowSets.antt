@@ -1,16 +1,10 @@
 -- Sets of rows as words: `&` is the meet of two tests, no bit is set where no row passes, and equal words are equal sets; so the verdict
 -- by words is the verdict by statements.
-use Prim.Native.Nat.{ℕ, zero, suc, ◌+◌, ◌*◌, ◌^◌, ◌<◌, ◌≤◌}
-use mathlib.Core.Path.{◌≡◌, refl, sym, ◌∙◌, ap, ap₂}
-use mathlib.Core.Bool.{Bool, true, false, not, ◌&&◌, ◌||◌, beq, and_comm}
-use mathlib.Core.List.{List, [], ◌∷◌, ◌++◌, map}
-use native.Mathlib.Nat.{pow-succ', mul_assoc}
-use native.Mathlib.Omega.{arith}
-use lib.Bits.{bit_and, and_block}
-use lib.Dec.{eqb}
-use lib.ListN.{length}
-use lib.Pow.{pow_pos}
-use borrow.Author.Tests.{eqb-true, eqb-false, eq-eqb, ne_eqb}
+use Rattle.std.proofs.Common.{ℕ, zero, suc, ◌+◌, ◌*◌, ◌^◌, ◌<◌, ◌≤◌, ◌≡◌, refl, sym, ◌∙◌, ap, ap₂, Bool, true, false, not, ◌&&◌, ◌||◌, List, [], ◌∷◌, ◌++◌, map, mul_assoc, arith, bit_and, eqb, length, pow_pos, eqb-true, eq-eqb, ne_eqb}
+use mathlib.Core.Bool.{beq, and_comm}
+use Rattle.std.proofs.Math.Nat.{pow-succ'}
+use Rattle.std.specs.Int.Bits.{and_block}
+use borrow.Author.Tests.{eqb-false}
 use Rattle.stored.specs.Choice.{pick, some}
 use Rattle.stored.specs.Tables.{Statement}
 use Rattle.judging.specs.Requests.{Value}

@@ -1,15 +1,10 @@
 -- The walk over the entries of a table gathers just the rows that hold. The walk goes forward and the table is gathered from behind, so
 -- the claim is made of a walk anywhere: what it has, the row at hand if the rest of its lists let it hold, and the rows behind.
-use Prim.Native.Nat.{ℕ, suc, ◌+◌, ◌*◌, ◌%◌, ◌^◌, ◌<◌, ◌≤◌}
-use mathlib.Core.Path.{◌≡◌, refl, sym, ◌∙◌, ap}
-use mathlib.Core.Bool.{Bool, true, false, not, ◌&&◌, ◌||◌, or_assoc, or-false, and-true}
-use mathlib.Core.List.{List, [], ◌∷◌}
-use native.Mathlib.Nat.{pow-succ', mod-eq_of_lt, one-mul, mul-add, mul_assoc}
-use native.Mathlib.Omega.{arith}
-use lib.Bits.{bit_or, or_shifted_r}
-use lib.Dec.{eqb}
-use lib.ListN.{length}
-use lib.Pow.{pow-lt}
+use Rattle.std.proofs.Common.{ℕ, suc, ◌+◌, ◌*◌, ◌%◌, ◌^◌, ◌<◌, ◌≤◌, ◌≡◌, refl, sym, ◌∙◌, ap, Bool, true, false, not, ◌&&◌, ◌||◌, List, [], ◌∷◌, mod-eq_of_lt, one-mul, mul-add, mul_assoc, arith, bit_or, eqb, length}
+use mathlib.Core.Bool.{or_assoc, or-false, and-true}
+use Rattle.std.proofs.Math.Nat.{pow-succ'}
+use Rattle.std.specs.Int.Bits.{or_shifted_r}
+use Rattle.std.proofs.Math.Pow.{pow-lt}
 use Rattle.stored.specs.Choice.{pick, some, every}
 use Rattle.stored.specs.Items.{column_place, column_negated, key_code}
 use Rattle.stored.specs.Operators.{row_of}
@@ -190,7 +185,7 @@ module _ (only : Bool) (watched : ℕ → Bool) (value : ℕ → Value) where
   means (Entry.end ∷ es) k w column h few = means es k w column h few
 
   -- the walk gathers the rows of a table that count and hold in the columns watched for their values
-  pub walk-in-means : (es : List Entry) → length (table_of es) ≤ 64
+  walk-in-means : (es : List Entry) → length (table_of es) ≤ 64
       → done_of (run_in only watched value fresh_walk 0 es) ≡ rows_word (gathered_in only watched value) (table_of es)
   walk-in-means es few =
       means es 0 fresh_walk 0 (record { next = refl; apart = refl; below = omega arith }) (omega arith)
@@ -198,6 +193,13 @@ module _ (only : Bool) (watched : ℕ → Bool) (value : ℕ → Value) where
     where
       alone : (n : ℕ) → 0 + 0 + 2 ^ 0 * n ≡ n
       alone n = omega arith
+
+  -- a walk that has no entry left, and has come to what the walk over all of them comes to
+  pub walk-ends : (es left : List Entry) (w : Walk) (column : ℕ) → left ≡ []
+      → run_in only watched value w column left ≡ run_in only watched value fresh_walk 0 es → length (table_of es) ≤ 64
+      → done_of w ≡ rows_word (gathered_in only watched value) (table_of es)
+  walk-ends es [] w column none is few = ap done_of is ∙ walk-in-means es few
+  walk-ends es (e ∷ left) w column none is few = cc
 
 -- in a single column
 module _ (only : Bool) (column : ℕ) (v : Value) where

@@ -9,6 +9,7 @@ use crate::gathering::gathered_rows;
 use crate::request::Request;
 
 /// The rows of a table that apply to a request.
+#[tactic(auto, unfolding(crate::specs::Meaning::applies))]
 pub fn applying_rows(table: &[u8], request: Request) -> u64
     requires { length (rows_of table.now) ≤ 64 }
     ensures { result ≡ rows_word (applies (columns_of request.entry)) (rows_of table.now) }

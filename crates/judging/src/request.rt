@@ -12,7 +12,7 @@ pub const COLUMNS: usize = 8;
 const KEYS: usize = 3;
 
 /// What a column of a request holds.
-#[derive(Clone, Copy)]
+#[derive(Clone, Copy, Debug, PartialEq, Eq)]
 pub enum Value<'a> {
     Absent,
     Text(&'a [u8]),
@@ -79,7 +79,7 @@ impl<'a> Value<'a> {
 }
 
 /// A request: a key that is not there is `None`.
-#[derive(Clone, Copy)]
+#[derive(Clone, Copy, Debug, PartialEq, Eq)]
 pub struct Request<'a> {
     pub principal: &'a [u8],
     pub action: &'a [u8],

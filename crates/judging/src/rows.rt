@@ -44,6 +44,7 @@ pub fn key_column(key: Key) -> usize
 }
 
 /// The rows of a table that hold in a column for a value, or those of them that allow.
+#[tactic(auto, unfolding(crate::specs::Meaning::holds))]
 pub fn rows_in(table: &[u8], only: bool, column: usize, value: Value) -> u64
     requires { length (rows_of table.now) ≤ 64 }
     ensures { result ≡ rows_word (gathered only column (value_of value.entry)) (rows_of table.now) }

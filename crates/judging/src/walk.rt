@@ -3,7 +3,7 @@
 
 use matching::reading::Reading;
 
-#[derive(Clone, Copy)]
+#[derive(Clone, Copy, Debug, PartialEq, Eq)]
 pub struct Walk {
     // The bit of the row at hand, and of the next one.
     pub bit: u64,

@@ -1,13 +1,13 @@
-use Rattle.std.proofs.Common.{◌∙◌, ap}
+use Rattle.std.proofs.Common.{◌∙◌}
 use Rattle.stored.specs.Entries.{entries_of}
-use Rattle.judging.specs.Machinery.Walk.{done_of}
-use Rattle.judging.proofs.Walking.{walk-in-means}
+use Rattle.stored.specs.EntriesLeft.{entries_left}
+use Rattle.judging.proofs.Walking.{walk-ends}
 use Rattle.judging.proofs.gathering.gathered_rows.Goals as goal
 
 pub returns : goal.returns
 returns g c =
     let asked = c.args.asked.now in
-    let none = c.in-None.ensures.steps.0 in
+    let here = c.loop-entry in
     c.done.ensures
-    ∙ ap done_of (rw none at c.loop-entry.invariant)
-    ∙ walk-in-means c.args.only (g.A.Asked.watched asked) (g.A.Asked.held asked) (entries_of c.args.table.now) c.requires
+    ∙ walk-ends c.args.only (g.A.Asked.watched asked) (g.A.Asked.held asked) (entries_of c.args.table.now) (entries_left here.entry-iterator) here.walk here.column
+    c.in-None.ensures.steps.0 here.invariant c.requires
