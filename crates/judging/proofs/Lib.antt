@@ -1,7 +1,6 @@
 -- Laws for the judge and for the crates above: a file for each concept.
 pub mod RowSets
 pub mod Faults
-pub mod Records
 pub mod Refusing
 pub mod Walking
 pub mod Asking
