@@ -1,5 +1,5 @@
 -- What the program that reads policies promises beyond its functions' contracts: lines, to the byte.
-use mathlib.Core.Path.{◌≡◌, refl}
+use Rattle.std.proofs.Common.{◌≡◌, refl}
 use Rattle.json_text.specs.Texts.{ascii}
 use Rattle.printing.specs.Decimals.{decimal_of}
 use Rattle.policies.specs.Lines.{refusal_line}

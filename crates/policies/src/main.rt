@@ -5,7 +5,8 @@
 mod lines;
 
 use crate::lines::{LINE, refusal_line};
-use policy::reader::{JsonAnswer, read_json};
+use policy::reader::read_json;
+use refusals::{Reason, Refusal};
 use stored::limits::MOST_BYTES;
 
 // Bytes of input that are taken, at most, and room for one more, which shows that there are more.
@@ -13,9 +14,9 @@ const MOST_INPUT: usize = 131072;
 
 const INPUT_ROOM: usize = 131073;
 
-fn print_refusal(number: u8, place: usize) {
+fn print_refusal(refusal: Refusal) {
     let mut line = [0u8; LINE];
-    let size = refusal_line(&mut line, number, place);
+    let size = refusal_line(&mut line, refusal);
     io::write_all(1, &line[..size]);
 }
 
@@ -23,10 +24,10 @@ fn print_refusal(number: u8, place: usize) {
 fn print_table(text: &[u8]) {
     let mut table = [0u8; MOST_BYTES];
     match read_json(text, &mut table) {
-        JsonAnswer::Written(size) => {
+        Ok(size) => {
             io::write_all(1, &table[..size]);
         }
-        JsonAnswer::Refused(number, place) => print_refusal(number, place),
+        Err(refusal) => print_refusal(refusal),
     }
 }
 
@@ -34,8 +35,11 @@ fn main() {
     let mut input = [0u8; INPUT_ROOM];
     let size = io::read_full(0, &mut input);
     if MOST_INPUT < size {
-        print_refusal(1, MOST_INPUT);
-        return;
+        print_refusal(Refusal {
+            reason: Reason::TooLong,
+            place: MOST_INPUT,
+        });
+    } else {
+        print_table(&input[..size]);
     }
-    print_table(&input[..size]);
 }

@@ -15,19 +15,21 @@ fn lay_word(words: &[u8], room: &mut [u8], from: usize) -> usize {
         return from;
     }
     let size = lay_words(words, &mut room[from..]);
-    if room.len() - from < size {
-        return from;
+    if size <= room.len() - from {
+        from + size
+    } else {
+        from
     }
-    from + size
 }
 
 // Lays down one byte, and gives the place behind.
 fn lay_byte(byte: u8, room: &mut [u8], from: usize) -> usize {
     if from < room.len() {
         room[from] = byte;
-        return from + 1;
+        from + 1
+    } else {
+        from
     }
-    from
 }
 
 // The place behind a word of so many bytes and its two backquotes, or the end.
@@ -35,14 +37,7 @@ fn behind_word(size: usize, at: usize, word: usize) -> usize
     requires { at < size }
     ensures { (at < result) × (result ≤ size) }
 {
-    let left = size - at;
-    if left < 2 {
-        return size;
-    }
-    if left - 2 < word {
-        return size;
-    }
-    at + word + 2
+    at.saturating_add(word).saturating_add(2).min(size)
 }
 
 // Lays down what a text stands for, and gives its length.
@@ -72,11 +67,8 @@ fn run_case(text: &[u8], json: &mut [u8]) {
 }
 
 fn run_line(line: &[u8], json: &mut [u8]) {
-    if byte_at(line, 0) == b'#' {
-        return;
-    }
     let colon = place_of(line, b':');
-    if colon == line.len() {
+    if byte_at(line, 0) == b'#' || colon == line.len() {
         return;
     }
     io::write_all(1, part_of(line, 0, colon));

@@ -1,21 +1,20 @@
 // What is printed of an answer. The buffer holds one filling byte before each case, so that what was written can be told.
 use cases::print::{print_number, print_refusal};
-use cases::same::are_bytes;
-use cases::text::{first_bytes, part_of};
-use policy::reader::JsonAnswer;
-use stored::records::byte_at;
+use refusals::Refusal;
 
 // No record of these cases has it.
 pub(crate) const FILLING: u8 = 0xEE;
 
 fn print_bytes(bytes: &[u8]) {
-    let mut at: usize = 0;
-    while at < bytes.len() {
-        let byte = byte_at(bytes, at);
+    for byte in bytes {
         io::write_all(1, b" ");
-        io::print_hex(1, byte as u64, 2);
-        at += 1;
+        io::print_hex(1, u64::from(*byte), 2);
     }
+}
+
+// Bytes of a buffer are as they were.
+fn is_untouched(bytes: &[u8]) -> bool {
+    bytes.iter().all(|byte| *byte == FILLING)
 }
 
 // The bytes of a table, and whether those behind it are as they were.
@@ -24,33 +23,26 @@ fn print_table(table: &[u8], size: usize) {
         io::write_all(1, b" longer than its buffer");
         return;
     }
-    print_bytes(first_bytes(table, size));
-    if are_bytes(part_of(table, size, table.len()), FILLING) {
-        return;
+    print_bytes(&table[..size]);
+    if !is_untouched(&table[size..]) {
+        io::write_all(1, b"; bytes behind it changed");
     }
-    io::write_all(1, b"; bytes behind it changed");
 }
 
-// Whether a buffer is as it was.
-fn print_kept(table: &[u8]) {
-    if are_bytes(table, FILLING) {
-        return;
-    }
-    io::write_all(1, b"; buffer changed");
-}
-
-pub(crate) fn print_answer(answer: JsonAnswer, table: &[u8]) {
+pub(crate) fn print_answer(answer: Result<usize, Refusal>, table: &[u8]) {
     match answer {
-        JsonAnswer::Written(size) => {
+        Ok(size) => {
             io::write_all(1, b" written");
             print_number(size);
             io::write_all(1, b":");
             print_table(table, size);
         }
-        JsonAnswer::Refused(number, place) => {
+        Err(refusal) => {
             io::write_all(1, b" refused");
-            print_refusal(number, place);
-            print_kept(table);
+            print_refusal(u8::from(refusal.reason), refusal.place);
+            if !is_untouched(table) {
+                io::write_all(1, b"; buffer changed");
+            }
         }
     }
     io::write_all(1, b"\n");

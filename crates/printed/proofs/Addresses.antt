@@ -1,15 +1,9 @@
 -- The networks of a table have addresses of 32 bits.
-use Prim.Native.Nat.{ℕ, zero, suc, ◌+◌, ◌-◌, ◌^◌, ◌<◌}
-use mathlib.Core.Bool.{Bool, true, false}
-use mathlib.Core.List.{List, [], ◌∷◌}
-use mathlib.Core.Logic.{inl, inr}
-use lib.Dec.{eqb, ltb}
-use lib.ListN.{length, get_or, take, drop}
-use native.Mathlib.Omega.{arith}
+use Rattle.std.proofs.Common.{Option, Some, None, ℕ, zero, suc, ◌+◌, ◌-◌, ◌^◌, ◌<◌, Bool, true, false, List, [], ◌∷◌, inl, inr, eqb, ltb, length, get_or, take, drop, arith}
 use Rattle.stored.specs.Choice.{pick, In}
 use Rattle.stored.specs.Items.{key_of}
 use Rattle.stored.specs.Operators.{operator_of}
-use Rattle.stored.specs.Records.{kind_of, size_of, condition_of_found, decode_of, known, record_behind, record_at}
+use Rattle.stored.specs.Records.{Record as R, Record, kind_of, size_of, condition_of_found, decode_of, known, record_behind, record_at}
 use Rattle.stored.specs.Entries.{Entry, entry_of, walk, entries_from, entries_of, after_record, Bytes, AllFit}
 use Rattle.stored.specs.Tables.{Listed, Element, Condition, Statement}
 use Rattle.stored.specs.Form.{listed_for, elements_for, conditions_for, statements_for}
@@ -17,16 +11,10 @@ use Rattle.stored.specs.declared.items.Effect.TheVariants as E
 use Rattle.stored.specs.declared.items.Column.TheVariants as C
 use Rattle.stored.specs.declared.items.Item.{Item}
 use Rattle.stored.specs.declared.items.Item.TheVariants as I
-use Rattle.stored.specs.declared.items.FoundKey.{FoundKey}
-use Rattle.stored.specs.declared.items.FoundKey.TheVariants as FK
-use Rattle.stored.specs.declared.operators.FoundOperator.{FoundOperator}
-use Rattle.stored.specs.declared.operators.FoundOperator.TheVariants as FO
+use Rattle.stored.specs.declared.items.Key.{Key}
+use Rattle.stored.specs.declared.items.Operator.{Operator}
 use Rattle.stored.specs.declared.records.Kind.{Kind}
 use Rattle.stored.specs.declared.records.Kind.TheVariants as K
-use Rattle.stored.specs.declared.records.Decoded.{Decoded}
-use Rattle.stored.specs.declared.records.Decoded.TheVariants as D
-use Rattle.stored.specs.declared.records.Record.{Record}
-use Rattle.stored.specs.declared.records.Record.TheVariants as R
 use Rattle.stored.proofs.Decoding.{byte_at}
 use Rattle.stored.proofs.OneRecord.{bytes_take, bytes_drop}
 use Rattle.printed.proofs.ValuesSaid.{Small}
@@ -40,27 +28,27 @@ ItemFits (I.Network a n) = a < 2 ^ 32
 ItemFits I.Value = Unit {0}
 ItemFits I.End = Unit {0}
 
-abbrev DecodedFits : Decoded → Type 0
-DecodedFits (D.Known i) = ItemFits i
-DecodedFits D.Strange = Unit {0}
+abbrev DecodedFits : Option Item → Type 0
+DecodedFits (Some i) = ItemFits i
+DecodedFits None = Unit {0}
 
 abbrev RecordFits : Record → Type 0
 RecordFits (R.Is i begin size) = ItemFits i
 RecordFits R.Cut = Unit {0}
 RecordFits R.Strange = Unit {0}
 
-statement-fits : (a b : Bool) → DecodedFits (pick a (D.Known (I.Statement E.Deny)) (pick b (D.Known (I.Statement E.Allow)) D.Strange))
+statement-fits : (a b : Bool) → DecodedFits (pick a (Some (I.Statement E.Deny)) (pick b (Some (I.Statement E.Allow)) None))
 statement-fits true b = tt
 statement-fits false true = tt
 statement-fits false false = tt
 
 column_fits : (a b c d e f : Bool)
     → DecodedFits
-    (pick a (D.Known (I.Column C.Principal))
-    (pick b (D.Known (I.Column C.Action))
-    (pick c (D.Known (I.Column C.Resource))
-    (pick d (D.Known (I.Column C.NotPrincipal))
-    (pick e (D.Known (I.Column C.NotAction)) (pick f (D.Known (I.Column C.NotResource)) D.Strange))))))
+    (pick a (Some (I.Column C.Principal))
+    (pick b (Some (I.Column C.Action))
+    (pick c (Some (I.Column C.Resource))
+    (pick d (Some (I.Column C.NotPrincipal))
+    (pick e (Some (I.Column C.NotAction)) (pick f (Some (I.Column C.NotResource)) None))))))
 column_fits true b c d e f = tt
 column_fits false true c d e f = tt
 column_fits false false true d e f = tt
@@ -69,10 +57,10 @@ column_fits false false false false true f = tt
 column_fits false false false false false true = tt
 column_fits false false false false false false = tt
 
-condition-fits : (o : FoundOperator) (k : FoundKey) → DecodedFits (condition_of_found o k)
-condition-fits (FO.Known o) (FK.Known k) = tt
-condition-fits (FO.Known o) FK.Unknown = tt
-condition-fits FO.Unknown k = tt
+condition-fits : (o : Option Operator) (k : Option Key) → DecodedFits (condition_of_found o k)
+condition-fits (Some o) (Some k) = tt
+condition-fits (Some o) None = tt
+condition-fits None k = tt
 
 decoded-fits : (k : Kind) (body : List ℕ) → Bytes body → DecodedFits (decode_of k body)
 decoded-fits K.Start body h = tt
@@ -86,9 +74,9 @@ decoded-fits K.Network body h = omega (arith, byte_at body h 0, byte_at body h 1
 decoded-fits (K.Value n) body h = tt
 decoded-fits K.Unknown body h = tt
 
-known-fits : (start size : ℕ) (d : Decoded) → DecodedFits d → RecordFits (known start size d)
-known-fits start size (D.Known i) h = h
-known-fits start size D.Strange h = tt
+known-fits : (start size : ℕ) (d : Option Item) → DecodedFits d → RecordFits (known start size d)
+known-fits start size (Some i) h = h
+known-fits start size None h = tt
 
 behind-fits : (t : List ℕ) (start : ℕ) (k : Kind) → Bytes t → RecordFits (record_behind t start k)
 behind-fits t start k h = by (ltb (length t - start) (size_of k))

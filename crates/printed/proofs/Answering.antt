@@ -1,9 +1,5 @@
 -- What the reader of policies answers for printed tables, and that what it writes has its conditions by their operators.
-use Prim.Native.Nat.{ℕ, ◌≤◌}
-use mathlib.Core.Path.{◌≡◌, refl, sym, ◌∙◌, subst}
-use mathlib.Core.List.{List, [], ◌∷◌, ◌++◌}
-use lib.ListN.{length, take, drop}
-use native.Mathlib.Omega.{arith}
+use Rattle.std.proofs.Common.{ℕ, ◌≤◌, ◌≡◌, refl, sym, ◌∙◌, subst, List, [], ◌∷◌, ◌++◌, length, take, drop, arith}
 use Rattle.json_text.specs.Trees.{Tree}
 use Rattle.json_text.specs.Trees.Shape.{one}
 use Rattle.json_text.proofs.Choosing.{never}
@@ -15,11 +11,10 @@ use Rattle.stored.specs.Choice.{In}
 use Rattle.stored.specs.Reading.{reading}
 use Rattle.stored.specs.Entries.{Bytes}
 use Rattle.stored.specs.Tables.{Statement, rows_of}
-use Rattle.stored.specs.declared.reader.ReadAnswer.TheVariants as R
+use Rattle.stored.specs.Reading.{ReadAnswer as R}
 use Rattle.policy.specs.Answers.{document_of, JsonAnswered}
 use Rattle.policy.specs.Answers.JsonAnswered.{no_text, wrong_member, wrong_record, too_long, no_room, written}
-use Rattle.policy.specs.declared.reader.JsonAnswer.{JsonAnswer}
-use Rattle.policy.specs.declared.reader.JsonAnswer.TheVariants as A
+use Rattle.policy.specs.Answers.{JsonAnswer as A, JsonAnswer}
 use Rattle.policy.proofs.Promises.{json-means}
 use Rattle.printed.specs.Grouped.{Grouped}
 use Rattle.printed.specs.Machinery.Makes.{Makes}

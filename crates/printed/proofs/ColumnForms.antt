@@ -1,8 +1,5 @@
 -- A statement's members, whichever forms its elements have: the verdict on them, what they say, and what they wish for.
-use Prim.Native.Nat.{ℕ}
-use mathlib.Core.Path.{◌≡◌, refl}
-use mathlib.Core.List.{List, [], ◌∷◌}
-use lib.ListN.{length}
+use Rattle.std.proofs.Common.{ℕ, ◌≡◌, refl, List, [], ◌∷◌, length}
 use Rattle.json_text.specs.Trees.{Tree}
 use Rattle.json_text.specs.Trees.Shape.{one, several, named}
 use Rattle.json_text.proofs.Choosing.{never}

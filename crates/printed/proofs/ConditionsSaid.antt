@@ -1,13 +1,5 @@
 -- The printed conditions: they have no fault, they say the conditions, and each of them is wished for.
-use Prim.Native.Nat.{ℕ, suc, ◌<◌}
-use mathlib.Core.Path.{◌≡◌, refl, sym, ◌∙◌, ap, subst}
-use mathlib.Core.Bool.{Bool, true, false}
-use mathlib.Core.List.{List, [], ◌∷◌}
-use mathlib.Core.Logic.{inl, inr}
-use lib.Dec.{eqb}
-use lib.ListN.{length}
-use native.Mathlib.Omega.{arith}
-use borrow.Author.Tests.{ne_eqb}
+use Rattle.std.proofs.Common.{ℕ, suc, ◌<◌, ◌≡◌, refl, sym, ◌∙◌, ap, subst, Bool, true, false, List, [], ◌∷◌, inl, inr, eqb, length, arith, ne_eqb}
 use Rattle.members.specs.Machinery.Verdicts as Mb
 use Rattle.members.specs.Machinery.Verdicts.{is_seen, add}
 use Rattle.members.specs.Members.Verdict.{fine}

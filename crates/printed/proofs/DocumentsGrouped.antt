@@ -1,12 +1,5 @@
 -- The statements of a sound document have their conditions by their operators.
-use Prim.Native.Nat.{ℕ, ◌+◌, ◌/◌}
-use mathlib.Core.Path.{◌≡◌, refl}
-use mathlib.Core.Bool.{Bool, true, false}
-use mathlib.Core.List.{List, [], ◌∷◌}
-use mathlib.Core.Logic.{inl, inr}
-use lib.Dec.{eqb, leb}
-use native.Mathlib.Omega.{arith}
-use borrow.Author.Tests.{eqb-true, leb-true, leb-false}
+use Rattle.std.proofs.Common.{ℕ, ◌+◌, ◌/◌, ◌≡◌, refl, Bool, true, false, List, [], ◌∷◌, inl, inr, eqb, leb, arith, eqb-true, leb-true, leb-false}
 use Rattle.json_text.specs.Choice.{pick}
 use Rattle.json_text.specs.Trees.{Tree}
 use Rattle.json_text.specs.Trees.Shape.{one, several, named}

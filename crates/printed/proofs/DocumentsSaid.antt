@@ -1,10 +1,5 @@
 -- The printed document: it has no fault, it says the statements, and none of its records is refused.
-use Prim.Native.Nat.{ℕ, suc}
-use mathlib.Core.Path.{◌≡◌, refl, sym, ◌∙◌, ap, subst}
-use mathlib.Core.Bool.{true, false}
-use mathlib.Core.List.{List, [], ◌∷◌}
-use lib.ListN.{length}
-use native.Mathlib.Omega.{arith}
+use Rattle.std.proofs.Common.{ℕ, suc, ◌≡◌, refl, sym, ◌∙◌, ap, subst, true, false, List, [], ◌∷◌, length, arith}
 use Rattle.json_text.specs.Trees.{Tree, tree_of}
 use Rattle.json_text.specs.Trees.Shape.{one, several, named}
 use Rattle.json_text.specs.Grammar.{Text}

@@ -1,9 +1,5 @@
 -- A table whose conditions stand by their operators is what the text that prints its statements makes.
-use Prim.Native.Nat.{ℕ, ◌<◌}
-use mathlib.Core.Path.{◌≡◌, refl, sym, ◌∙◌, ap, subst}
-use mathlib.Core.List.{List, [], ◌∷◌}
-use mathlib.Core.Logic.{inl, inr}
-use lib.ListN.{length}
+use Rattle.std.proofs.Common.{ℕ, ◌<◌, ◌≡◌, refl, sym, ◌∙◌, ap, subst, List, [], ◌∷◌, inl, inr, length}
 use Rattle.json_text.specs.Trees.{tree_of}
 use Rattle.stored.specs.Choice.{In}
 use Rattle.stored.specs.Operators.{row_of}
@@ -16,7 +12,7 @@ use Rattle.stored.specs.Tables.{Condition, Statement, rows_of}
 use Rattle.stored.specs.Form.{statements_for, entries_for, WellFormed, SoundStatement}
 use Rattle.stored.specs.declared.items.Sort.{Sort}
 use Rattle.stored.specs.declared.items.Sort.TheVariants as S
-use Rattle.stored.specs.declared.reader.ReadAnswer.TheVariants as A
+use Rattle.stored.specs.Reading.{ReadAnswer as A}
 use Rattle.stored.proofs.Promises.{three-elements, sound-values, whole-rows}
 use Rattle.stored.proofs.Accepting.{accepted, read_through}
 use Rattle.stored.proofs.EntriesFor.{stands-for}

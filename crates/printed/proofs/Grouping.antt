@@ -1,9 +1,5 @@
 -- Conditions that stand by their operators are those of groups with each operator and, in it, each key once; and the other way round.
-use mathlib.Core.Path.{◌≡◌, refl, sym, ◌∙◌, ap, subst}
-use mathlib.Core.Bool.{Bool, true, false}
-use mathlib.Core.List.{List, [], ◌∷◌}
-use mathlib.Core.Logic.{◌⊎◌, inl, inr}
-use borrow.Author.Tests.{eqb-true, eq-eqb}
+use Rattle.std.proofs.Common.{◌≡◌, refl, sym, ◌∙◌, ap, subst, Bool, true, false, List, [], ◌∷◌, ◌⊎◌, inl, inr, eqb-true, eq-eqb}
 use Rattle.stored.specs.Choice.{pick, In}
 use Rattle.stored.specs.Tables.{Condition}
 use Rattle.stored.specs.declared.items.Operator.{Operator}

@@ -1,11 +1,8 @@
 -- What is seen behind one more mark.
-use Prim.Native.Nat.{ℕ, zero, suc, ◌+◌, ◌*◌, ◌/◌, ◌%◌, ◌^◌, ◌<◌, max}
-use mathlib.Core.Path.{◌≡◌, refl, sym, ◌∙◌, ap}
-use mathlib.Core.Bool.{Bool, false, ◌||◌}
-use native.Mathlib.Nat.{pow-succ', div-one, zero-div, div-div-eq-div-mul}
-use native.Mathlib.Omega.{arith}
-use lib.Bits.{bit_or, or_step, or_shr}
-use lib.Dec.{eqb, eqb-zero-suc, eqb-suc-zero, eqb-suc-suc}
+use Rattle.std.proofs.Common.{ℕ, zero, suc, ◌+◌, ◌*◌, ◌/◌, ◌%◌, ◌^◌, ◌<◌, max, ◌≡◌, refl, sym, ◌∙◌, ap, Bool, false, ◌||◌, div-one, arith, bit_or, eqb}
+use native.Mathlib.Nat.{pow-succ', zero-div, div-div-eq-div-mul}
+use lib.Bits.{or_step, or_shr}
+use lib.Dec.{eqb-zero-suc, eqb-suc-zero, eqb-suc-suc}
 use Rattle.members.specs.Machinery.Verdicts.{is_seen, add}
 
 or-lowest : (r s n q : ℕ) → r < 2 → s < 2 → n ≡ q * 2 + max r s → eqb (n % 2) 1 ≡ (eqb r 1 || eqb s 1)

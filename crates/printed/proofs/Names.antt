@@ -1,7 +1,5 @@
 -- The names that are printed are those that are read.
-use mathlib.Core.Path.{◌≡◌, refl}
-use mathlib.Core.Bool.{true, false}
-use lib.Dec.{eqb}
+use Rattle.std.proofs.Common.{◌≡◌, refl, true, false, eqb}
 use Rattle.members.specs.Members.{top_names, row_names, operator_names, key_names, version_text, operator_kind, key_kind}
 use Rattle.records.specs.Documents.{operator_at, key_at, allow_text, deny_text}
 use Rattle.stored.specs.Values.{in_range}

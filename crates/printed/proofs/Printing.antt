@@ -1,11 +1,5 @@
 -- A printed value is one of the grammar, and its tree is the value with its places.
-use Prim.Native.Nat.{ℕ, suc}
-use mathlib.Core.Path.{◌≡◌, refl, ◌∙◌, ap}
-use mathlib.Core.Bool.{Bool, true, false, not, ◌&&◌, ◌||◌}
-use mathlib.Core.List.{List, [], ◌∷◌}
-use lib.Dec.{eqb, leb}
-use native.Mathlib.Omega.{arith}
-use borrow.Author.Tests.{leb-true, le-leb}
+use Rattle.std.proofs.Common.{ℕ, suc, ◌≡◌, refl, ◌∙◌, ap, Bool, true, false, not, ◌&&◌, ◌||◌, List, [], ◌∷◌, eqb, leb, arith, leb-true, le-leb}
 use Rattle.json_text.specs.Bytes.{is_simple, is_plain}
 use Rattle.json_text.specs.Choice.{pick}
 use Rattle.json_text.specs.Grammar.{Characters, Reads, Blanks, Text}

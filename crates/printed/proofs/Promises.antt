@@ -1,16 +1,13 @@
 -- Which tables JSON texts make, in statements that can be read without their proofs. `Grouped` says of a statement that the conditions of one
 -- operator stand together and no operator has a key twice.
-use Prim.Native.Nat.{ℕ, ◌≤◌}
-use mathlib.Core.Path.{◌≡◌}
-use mathlib.Core.List.{List, ◌++◌}
-use lib.ListN.{length, take, drop}
+use Rattle.std.proofs.Common.{ℕ, ◌≤◌, ◌≡◌, List, ◌++◌, length, take, drop}
 use Rattle.stored.specs.Choice.{In}
 use Rattle.stored.specs.Reading.{reading}
 use Rattle.stored.specs.Entries.{Bytes}
 use Rattle.stored.specs.Tables.{Statement, rows_of}
-use Rattle.stored.specs.declared.reader.ReadAnswer.TheVariants as R
+use Rattle.stored.specs.Reading.{ReadAnswer as R}
 use Rattle.policy.specs.Answers.{JsonAnswered}
-use Rattle.policy.specs.declared.reader.JsonAnswer.TheVariants as A
+use Rattle.policy.specs.Answers.{JsonAnswer as A}
 use Rattle.printed.specs.Grouped.{Grouped}
 use Rattle.printed.proofs.Answering
 

@@ -1,11 +1,5 @@
 -- The printed statements: they have no fault, they say the statements, and all that they wish for are entries.
-use Prim.Native.Nat.{ℕ, suc, ◌<◌}
-use mathlib.Core.Path.{◌≡◌, refl, sym, ◌∙◌, ap, subst}
-use mathlib.Core.Bool.{true, false}
-use mathlib.Core.List.{List, [], ◌∷◌}
-use mathlib.Core.Logic.{inl, inr}
-use lib.ListN.{length}
-use native.Mathlib.Omega.{arith}
+use Rattle.std.proofs.Common.{ℕ, suc, ◌<◌, ◌≡◌, refl, sym, ◌∙◌, ap, subst, true, false, List, [], ◌∷◌, inl, inr, length, arith}
 use Rattle.json_text.specs.Trees.{Tree}
 use Rattle.json_text.specs.Trees.Shape.{one, named}
 use Rattle.json_text.proofs.Choosing.{never}

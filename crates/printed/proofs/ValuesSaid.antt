@@ -1,13 +1,5 @@
 -- The printed list of values: it has no fault, it says the values, and each of them is wished for.
-use Prim.Native.Nat.{ℕ, suc, ◌^◌, ◌≤◌, ◌<◌}
-use mathlib.Core.Path.{◌≡◌, refl, ap}
-use mathlib.Core.Bool.{Bool, true, ◌&&◌}
-use mathlib.Core.List.{List, [], ◌∷◌}
-use mathlib.Core.Logic.{inl, inr}
-use lib.Dec.{leb}
-use lib.ListN.{length}
-use native.Mathlib.Omega.{arith}
-use borrow.Author.Tests.{leb-true}
+use Rattle.std.proofs.Common.{ℕ, suc, ◌^◌, ◌≤◌, ◌<◌, ◌≡◌, refl, ap, Bool, true, ◌&&◌, List, [], ◌∷◌, inl, inr, leb, length, arith, leb-true}
 use Rattle.json_text.proofs.Choosing.{both_left}
 use Rattle.members.specs.Machinery.Verdicts as Mb
 use Rattle.members.specs.Members.Verdict.{fine}

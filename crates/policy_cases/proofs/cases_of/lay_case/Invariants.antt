@@ -1,7 +1,5 @@
 -- The place stays in the text, and the room keeps its length.
-use Prim.Native.Nat.{◌-◌, ◌≤◌}
-use mathlib.Core.Path.{◌≡◌}
-use lib.ListN.{length}
+use Rattle.std.proofs.Common.{◌-◌, ◌≤◌, ◌≡◌, length}
 use Rattle.policy_cases.proofs.cases_of.lay_case.Given as goal
 
 abbrev pub invariant-loop-at : goal.invariant-loop-at

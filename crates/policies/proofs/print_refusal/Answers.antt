@@ -1,9 +1,0 @@
--- The line lies inside its buffer.
-use mathlib.Core.Path.{sym}
-use native.Mathlib.Omega.{arith}
-use lib.Seq.{length-take-le}
-use Rattle.policies.proofs.print_refusal.Goals as goal
-
-pub slice_bounds-write_all-end : goal.slice_bounds-write_all-end
-slice_bounds-write_all-end c =
-    sym (length-take-le c.refusal_line-size.result c.refusal_line-size.new.out (omega (arith, c.refusal_line-size.ensures.within, c.refusal_line-size.auto.out)))
