@@ -1,5 +1,7 @@
 // The two questions with lent buffers that are too short, just long enough or longer, and with a k past the last gap. The tables
 // are those of RULES 8, which have one gap.
+ghost use Rattle.std.specs.Prelude.{◌≤◌};
+
 use cases::same::{are_bytes, are_words};
 use cases::text::part_of;
 use comparing::compare::{gap, gap_count};
@@ -11,13 +13,11 @@ const FILLING: u8 = 0xEE;
 fn print_words(words: &[u64]) {
     if are_words(words, ONES) {
         io::write_all(1, b"; workspace kept");
-        return;
-    }
-    if are_words(words, 0) {
+    } else if are_words(words, 0) {
         io::write_all(1, b"; workspace zero");
-        return;
+    } else {
+        io::write_all(1, b"; workspace not clean");
     }
-    io::write_all(1, b"; workspace not clean");
 }
 
 fn print_values(values: &[u8]) {
@@ -31,85 +31,46 @@ fn print_values(values: &[u8]) {
     }
 }
 
-// The number of gaps with a workspace full of ones.
-fn count_in(name: &[u8], words: &mut [u64], first: &[u8], second: &[u8]) {
-    let answer = gap_count(words, first, second);
+// The number of gaps with a workspace of so many words full of ones.
+fn count_in<const WORDS: usize>(name: &[u8], first: &[u8], second: &[u8])
+    requires { WORDS ≤ 10000 }
+{
+    let mut words = [ONES; WORDS];
+    let answer = gap_count(&mut words, first, second);
     io::write_all(1, name);
     print_counting(answer);
-    print_words(words);
+    print_words(&words);
     io::write_all(1, b"\n");
 }
 
-// Gap k with a workspace full of ones and a value buffer full of the filling byte.
-fn show_in(name: &[u8], words: &mut [u64], first: &[u8], second: &[u8], k: u64, values: &mut [u8]) {
-    let answer = gap(words, first, second, k, values);
+// Gap k with a workspace of so many words full of ones and a value buffer of so many filling bytes.
+fn show_in<const WORDS: usize, const BYTES: usize>(name: &[u8], first: &[u8], second: &[u8], k: u64)
+    requires { (WORDS ≤ 10000) × (BYTES ≤ 3600) }
+{
+    let mut words = [ONES; WORDS];
+    let mut values = [FILLING; BYTES];
+    let answer = gap(&mut words, first, second, k, &mut values);
     io::write_all(1, name);
-    print_showing(answer, values);
-    print_words(words);
-    print_values(values);
+    print_showing(answer, &values);
+    print_words(&words);
+    print_values(&values);
     io::write_all(1, b"\n");
-}
-
-fn run_workspaces(first: &[u8], second: &[u8]) {
-    let mut short = [ONES; 8191];
-    let mut long = [ONES; 10000];
-    let mut none = [ONES; 0];
-    count_in(b"workspace-of-8191-words", &mut short, first, second);
-    count_in(b"workspace-of-8191-words-no-table", &mut short, b"", b"");
-    count_in(b"workspace-of-no-words", &mut none, first, second);
-    count_in(b"workspace-of-10000-words", &mut long, first, second);
-}
-
-fn run_short_workspace(first: &[u8], second: &[u8]) {
-    let mut words = [ONES; 8191];
-    let mut values = [FILLING; 3584];
-    show_in(
-        b"gap-in-8191-words",
-        &mut words,
-        first,
-        second,
-        0,
-        &mut values,
-    );
-}
-
-fn run_short_values(first: &[u8], second: &[u8]) {
-    let mut words = [ONES; 8192];
-    let mut values = [FILLING; 3583];
-    show_in(
-        b"gap-in-3583-bytes",
-        &mut words,
-        first,
-        second,
-        0,
-        &mut values,
-    );
-    show_in(
-        b"gap-in-3583-bytes-no-table",
-        &mut words,
-        b"",
-        b"",
-        0,
-        &mut values,
-    );
-}
-
-fn run_long_values(name: &[u8], first: &[u8], second: &[u8], k: u64) {
-    let mut words = [ONES; 10000];
-    let mut values = [FILLING; 3600];
-    show_in(name, &mut words, first, second, k, &mut values);
 }
 
 pub(crate) fn run_buffers() {
     let first = b"\x01\x01\x02\x01\x03\x00@*\x03\x01Aa*\x03\x02@r\x05";
     let second = b"\x01\x01\x02\x01\x03\x00@*\x03\x01Aab\x03\x02@r\x05";
-    run_workspaces(first, second);
-    run_short_workspace(first, second);
-    run_short_values(first, second);
-    run_long_values(b"gap-0-in-3600-bytes", first, second, 0);
-    run_long_values(b"gap-1-in-3600-bytes", first, second, 1);
-    run_long_values(b"gap-last-number-in-3600-bytes", first, second, ONES);
-    run_long_values(b"gap-of-no-gaps", second, first, 0);
-    run_long_values(b"gap-of-a-refused-first-table", b"", second, 0);
-    run_long_values(b"gap-of-a-refused-second-table", first, b"", 0);
+    count_in::<8191>(b"workspace-of-8191-words", first, second);
+    count_in::<8191>(b"workspace-of-8191-words-no-table", b"", b"");
+    count_in::<0>(b"workspace-of-no-words", first, second);
+    count_in::<10000>(b"workspace-of-10000-words", first, second);
+    show_in::<8191, 3584>(b"gap-in-8191-words", first, second, 0);
+    show_in::<8192, 3583>(b"gap-in-3583-bytes", first, second, 0);
+    show_in::<8192, 3583>(b"gap-in-3583-bytes-no-table", b"", b"", 0);
+    show_in::<10000, 3600>(b"gap-0-in-3600-bytes", first, second, 0);
+    show_in::<10000, 3600>(b"gap-1-in-3600-bytes", first, second, 1);
+    show_in::<10000, 3600>(b"gap-last-number-in-3600-bytes", first, second, ONES);
+    show_in::<10000, 3600>(b"gap-of-no-gaps", second, first, 0);
+    show_in::<10000, 3600>(b"gap-of-a-refused-first-table", b"", second, 0);
+    show_in::<10000, 3600>(b"gap-of-a-refused-second-table", first, b"", 0);
 }

@@ -1,56 +1,51 @@
 // The two questions about a pair of tables, each with a workspace of its own that is full of ones before and must be zero afterwards.
 use crate::print::{print_refused, print_shape};
 use cases::same::are_words;
-use comparing::answers::{Counting, Showing};
+use comparing::answers::{Refused, Shape};
 use comparing::compare::{gap, gap_count};
 use comparing::limits::{VALUE_BYTES, WORKSPACE_WORDS};
 
-// Every bit is set.
-pub const ONES: u64 = 0xFFFFFFFFFFFFFFFF;
+/// Every bit is set.
+pub const ONES: u64 = u64::MAX;
 
 const PRINTED_GAPS: u64 = 8;
 
 fn print_unless_clean(workspace: &[u64]) {
-    if are_words(workspace, 0) {
-        return;
+    if !are_words(workspace, 0) {
+        io::write_all(1, b"workspace not clean\n");
     }
-    io::write_all(1, b"workspace not clean\n");
 }
 
-fn counting_of(first: &[u8], second: &[u8]) -> Counting {
+fn counting_of(first: &[u8], second: &[u8]) -> Result<u64, Refused> {
     let mut workspace = [ONES; WORKSPACE_WORDS];
     let answer = gap_count(&mut workspace, first, second);
     print_unless_clean(&workspace);
     answer
 }
 
-fn showing_of(first: &[u8], second: &[u8], k: u64, values: &mut [u8]) -> Showing {
+fn showing_of(first: &[u8], second: &[u8], k: u64, values: &mut [u8]) -> Result<Shape, Refused> {
     let mut workspace = [ONES; WORKSPACE_WORDS];
     let answer = gap(&mut workspace, first, second, k, values);
     print_unless_clean(&workspace);
     answer
 }
 
-pub fn print_showing(answer: Showing, values: &[u8]) {
+/// What came out of a question for a gap.
+pub fn print_showing(answer: Result<Shape, Refused>, values: &[u8]) {
     match answer {
-        Showing::Shown(shape) => {
-            print_shape(shape, values);
-        }
-        Showing::Refused(number, table, place) => {
-            print_refused(number, table, place);
-        }
+        Ok(shape) => print_shape(shape, values),
+        Err(refused) => print_refused(refused),
     }
 }
 
-pub fn print_counting(answer: Counting) {
+/// What came out of a comparison.
+pub fn print_counting(answer: Result<u64, Refused>) {
     match answer {
-        Counting::Gaps(count) => {
+        Ok(count) => {
             io::write_all(1, b" gaps ");
             io::print_decimal(1, count);
         }
-        Counting::Refused(number, table, place) => {
-            print_refused(number, table, place);
-        }
+        Err(refused) => print_refused(refused),
     }
 }
 
@@ -65,29 +60,16 @@ fn run_gap(first: &[u8], second: &[u8], k: u64) {
 }
 
 fn run_gaps(first: &[u8], second: &[u8], count: u64) {
-    let mut k: u64 = 0;
-    while k < PRINTED_GAPS {
-        if count <= k {
-            return;
-        }
+    for k in 0..count.min(PRINTED_GAPS) {
         run_gap(first, second, k);
-        k += 1;
     }
 }
 
-// A refused comparison has no gaps to print.
-fn number_of(answer: Counting) -> u64 {
-    match answer {
-        Counting::Gaps(count) => count,
-        Counting::Refused(_, _, _) => 0,
-    }
-}
-
-// Compares the first table against the second: the number of gaps, and the first of them.
+// Compares the first table against the second: the number of gaps, and the first of them. A refused comparison has no gaps to print.
 pub(crate) fn run_pair(name: &[u8], first: &[u8], second: &[u8]) {
     let answer = counting_of(first, second);
     io::write_all(1, name);
     print_counting(answer);
     io::write_all(1, b"\n");
-    run_gaps(first, second, number_of(answer));
+    run_gaps(first, second, answer.unwrap_or(0));
 }

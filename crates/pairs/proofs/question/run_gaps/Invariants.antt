@@ -1,9 +1,0 @@
--- At most eight gaps are asked for.
-use Prim.Native.Nat.{◌-◌, ◌≤◌}
-use Rattle.pairs.proofs.question.run_gaps.Given as goal
-
-abbrev pub invariant-loop-k : goal.invariant-loop-k
-invariant-loop-k l = l.k ≤ 8
-
-abbrev pub decreases-loop-k : goal.decreases-loop-k
-decreases-loop-k l = 8 - l.k
