@@ -1,7 +1,11 @@
 -- Laying down, a byte, a sign or a word at a time: what is left to lay down from a place on is the next and what is left behind it.
-use Rattle.std.proofs.Common.{ℕ, zero, suc, ◌+◌, ◌-◌, ◌<◌, ◌≤◌, ◌≡◌, refl, sym, ◌∙◌, ap, ap₂, true, false, List, arith, length, get_or, take, drop, set, le-leb, lt-ltb, le-ltb}
+use Rattle.std.proofs.Common.{ℕ, zero, suc, ◌+◌, ◌-◌, ◌<◌, ◌≤◌, ◌≡◌, refl, sym, ◌∙◌, ap, ap₂, Bool, true, false, List, eqb, ltb, length-drop, arith, length, get_or, take, drop, set, le-leb, lt-ltb, le-ltb}
 use Rattle.std.proofs.lemmas.Bool.{lt-leb}
-use Rattle.cases.specs.Text.{is_blank}
+use Rattle.std.proofs.lemmas.List.{get_or-drop}
+use Rattle.std.proofs.Math.Seq.{drop-drop}
+use Rattle.stored.specs.Choice.{pick}
+use Rattle.stored.proofs.EntriesLeft.{same-test}
+use Rattle.cases.specs.Text.{up_to, is_blank}
 use Rattle.cases.specs.Laying.{Laid, unlaid, byte_laid, sign_behind, sign_laid, behind, signs_laid, text_laid, kind_between, value_laid, word_laid, word_behind, words_from}
 
 pub no_room : (times byte : ℕ) (room : List ℕ) (at : ℕ) → length room ≤ at → byte_laid times byte room at ≡ unlaid room at
@@ -66,6 +70,64 @@ pub word_on : (fuel : ℕ) (words : List ℕ) (at : ℕ) (room : List ℕ) (to e
     → on ≡ (word_laid (take (end - at) (drop at words)) room to).to → next ≡ (word_laid (take (end - at) (drop at words)) room to).room
     → words_from (fuel - 1) words end next on ≡ words_from fuel words at room to
 word_on fuel words at room to end next on f h e eo en = rw (eo, en, e) (sym (one_word fuel words at room to f h))
+
+-- what stands in front of a text or of words does not matter: from a place on they are what is left from there on
+sign-moved : (text : List ℕ) (p q : ℕ) → sign_behind text (p + q) ≡ p + sign_behind (drop p text) q
+unfolding sign_behind
+sign-moved text p q = rw (get_or-drop p text q 0, drop-drop q p text) (by (eqb (get_or text (p + q) 0) 0x7B))
+  where
+    by : (brace : Bool) → pick brace (p + q + up_to 1 0x7D (drop (p + q) text)) (p + q + 1)
+        ≡ p + pick brace (q + up_to 1 0x7D (drop (p + q) text)) (q + 1)
+    by true = omega arith
+    by false = omega arith
+
+signs-moved : (fuel : ℕ) (text : List ℕ) (p q : ℕ) (room : List ℕ) (to : ℕ)
+    → signs_laid fuel text (p + q) room to ≡ signs_laid fuel (drop p text) q room to
+signs-moved zero text p q room to = refl
+signs-moved (suc fuel) text p q room to =
+    let end = sign_behind (drop p text) q in
+    let size : p + end - (p + q) ≡ end - q = omega arith in
+    let test = same-test p q (length text) ∙ ap (ltb q) (sym (length-drop p text)) in
+    let sign = sign_laid (take (end - q) (drop (p + q) text)) room to in
+    rw (test, sign-moved text p q, size, get_or-drop p text q 0, drop-drop q p text)
+    (ap (λ (more : Laid). pick (ltb q (length (drop p text))) (pick (is_blank (get_or text (p + q) 0)) (unlaid room to) more) (unlaid room to))
+    (signs-moved fuel text p end sign.room sign.to))
+
+words-moved : (fuel : ℕ) (words : List ℕ) (p q : ℕ) (room : List ℕ) (to : ℕ)
+    → words_from fuel words (p + q) room to ≡ words_from fuel (drop p words) q room to
+words-moved zero words p q room to = refl
+words-moved (suc fuel) words p q room to =
+    let end = q + up_to 1 0x20 (drop (p + q) words) in
+    let place : word_behind words (p + q) ≡ p + end = omega arith in
+    let size : p + end - (p + q) ≡ end - q = omega arith in
+    let test = same-test p q (length words) ∙ ap (ltb q) (sym (length-drop p words)) in
+    let word = word_laid (take (end - q) (drop (p + q) words)) room to in
+    rw (test, place, size, drop-drop q p words)
+    (ap (λ (more : Laid). pick (ltb q (length (drop p words))) more (unlaid room to)) (words-moved fuel words p end word.room word.to))
+
+-- the first sign, and what is left to lay down behind it
+pub sign-first : (fuel : ℕ) (text : List ℕ) (room : List ℕ) (to size : ℕ) (next : List ℕ) (on : ℕ) → 0 < fuel → 0 < length text
+    → is_blank (get_or text 0 0) ≡ false → size ≡ sign_behind text 0
+    → on ≡ (sign_laid (take size text) room to).to → next ≡ (sign_laid (take size text) room to).room
+    → signs_laid (fuel - 1) (drop size text) 0 next on ≡ signs_laid fuel text 0 room to
+sign-first fuel text room to size next on f h b e eo en =
+    let all : size - 0 ≡ size = omega arith in
+    let here : size + 0 ≡ size = omega arith in
+    sym (signs-moved (fuel - 1) text size 0 next on)
+    ∙ ap (λ (at : ℕ). signs_laid (fuel - 1) text at next on) here
+    ∙ sign-on fuel text 0 room to size next on f h b e (rw all eo) (rw all en)
+
+-- the first word, and what is left to lay down behind it
+pub word_first : (fuel : ℕ) (words : List ℕ) (room : List ℕ) (to size : ℕ) (next : List ℕ) (on : ℕ) → 0 < fuel → 0 < length words
+    → size ≡ word_behind words 0
+    → on ≡ (word_laid (take size words) room to).to → next ≡ (word_laid (take size words) room to).room
+    → words_from (fuel - 1) (drop size words) 0 next on ≡ words_from fuel words 0 room to
+word_first fuel words room to size next on f h e eo en =
+    let all : size - 0 ≡ size = omega arith in
+    let here : size + 0 ≡ size = omega arith in
+    sym (words-moved (fuel - 1) words size 0 next on)
+    ∙ ap (λ (at : ℕ). words_from (fuel - 1) words at next on) here
+    ∙ word_on fuel words 0 room to size next on f h e (rw all eo) (rw all en)
 
 -- the three steps that lay a value down
 pub value-laid : (text room : List ℕ) (from start end : ℕ) (first second third : List ℕ)

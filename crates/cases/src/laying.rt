@@ -92,17 +92,17 @@ fn lay_hex(word: &[u8], room: &mut [u8], from: usize) -> usize
     lay_byte(room, from, byte, times_of(word))
 }
 
-// The place behind what stands at a place of a text: one byte, or all up to the closing brace.
+// The place behind what stands first in a text: one byte, or all up to the closing brace.
 #[tactic(auto, unfolding(crate::specs::Laying::sign_behind))]
-fn behind_sign(text: &[u8], at: usize) -> usize
-    requires { at < length text.now }
-    ensures lower_bound { (at < result) × (result ≤ length text.now) }
-    ensures value { result ≡ sign_behind text.now at }
+fn behind_sign(text: &[u8]) -> usize
+    requires { 0 < length text.now }
+    ensures lower_bound { (0 < result) × (result ≤ length text.now) }
+    ensures value { result ≡ sign_behind text.now 0 }
 {
-    if text[at] == b'{' {
-        behind_next(text, at, b'}')
+    if text[0] == b'{' {
+        behind_next(text, 0, b'}')
     } else {
-        at + 1
+        1
     }
 }
 
@@ -126,14 +126,14 @@ pub fn lay_text(text: &[u8], room: &mut [u8], from: usize) -> usize
     ensures laid { room.new ≡ (text_laid text.now room.old from).room }
 {
     let mut to: usize = from;
-    let mut at: usize = 0;
-    while at < text.len() {
-        if is_blank(text[at]) {
-            return to;
+    let mut rest = text;
+    while let [first, ..] = rest {
+        if is_blank(*first) {
+            break;
         }
-        let end = behind_sign(text, at);
-        to = lay_sign(&text[at..end], room, to);
-        at = end;
+        let (sign, others) = rest.split_at(behind_sign(rest));
+        to = lay_sign(sign, room, to);
+        rest = others;
     }
     to
 }
@@ -170,11 +170,11 @@ pub fn lay_words(words: &[u8], room: &mut [u8]) -> usize
     ensures laid { room.new ≡ (words_laid words.now room.old).room }
 {
     let mut size: usize = 0;
-    let mut at: usize = 0;
-    while at < words.len() {
-        let end = behind_next(words, at, b' ');
-        size = lay_word(&words[at..end], room, size);
-        at = end;
+    let mut rest = words;
+    while !rest.is_empty() {
+        let (word, others) = rest.split_at(behind_next(rest, 0, b' '));
+        size = lay_word(word, room, size);
+        rest = others;
     }
     size
 }

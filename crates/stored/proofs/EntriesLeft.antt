@@ -18,7 +18,7 @@ moved p (R.Is i s n) = R.Is i (p + s) n
 moved p R.Cut = R.Cut
 moved p R.Strange = R.Strange
 
-same-test : (p q n : ℕ) → ltb (p + q) n ≡ ltb q (n - p)
+pub same-test : (p q n : ℕ) → ltb (p + q) n ≡ ltb q (n - p)
 same-test p q n = by (ltb q (n - p)) refl
   where
     by : (b : Bool) → ltb q (n - p) ≡ b → ltb (p + q) n ≡ b

@@ -1,28 +1,36 @@
-use Rattle.std.proofs.Common.{◌-◌, refl, sym, ap, ◌∙◌, arith, length, rules}
+use Rattle.std.proofs.Common.{◌-◌, ◌<◌, ◌≤◌, length, ◌∙◌, sym, ap, arith}
+use Rattle.std.proofs.lemmas.Grind.{common_steps}
 use Rattle.cases.specs.Laying.{Laid, words_laid}
-use Rattle.cases.proofs.OneByOne.{no_words, word_on}
+use Rattle.cases.proofs.OneByOne.{no_words, word_first}
 use Rattle.cases.proofs.laying.lay_words.Goals as goal
 
-pub loop-at-init : goal.loop-at-init
-loop-at-init c = (search rules, search rules, length c.args.words.now, omega arith, refl)
-
-pub loop-at-preserved : goal.loop-at-preserved
-loop-at-preserved c =
-    let l = c.loop-at in
-    let words = c.args.words.now in
-    let more = c.loop-at-test.true in
-    let end = c.behind_next-end.ensures in
-    let laid = c.lay_word-size.ensures in (
-      end.lower_bound.1,
-      c.lay_word-size.auto.room ∙ l.invariant.1,
-      l.invariant.2 - 1,
-      omega (arith, end.lower_bound.0, l.invariant.3, more),
-      word_on l.invariant.2 words l.at l.room l.size _ _ _ (omega (arith, l.invariant.3, more)) more end.value laid.next laid.laid ∙ l.invariant.4,
+pub loop-rest-preserved : goal.loop-rest-preserved
+loop-rest-preserved c =
+    let l = c.loop-rest in
+    let rest = l.rest.now in
+    let fuel = l.invariant.1 in
+    let size = c.behind_next.ensures in
+    let laid = c.lay_word-size.ensures in
+    let more : 0 < length rest = omega arith in (
+      c.lay_word-size.auto.room ∙ l.invariant.0,
+      fuel - 1,
+      omega (arith, size.lower_bound, l.invariant.2, c.split_at.ensures.back_len),
+      rw c.split_at.ensures.back
+          (word_first fuel rest l.room l.size c.behind_next.result _ _ (omega (arith, l.invariant.2, more)) more size.value
+          (rw (← c.split_at.ensures.front) laid.next) (rw (← c.split_at.ensures.front) laid.laid)
+          ∙ l.invariant.3),
     )
 
-pub returns : goal.returns
+pub returns-clause-next : goal.returns-clause-next
 unfolding words_laid
-returns c =
-    let l = c.loop-at in
-    let e = sym (no_words l.invariant.2 c.args.words.now l.at l.room l.size c.loop-at-test.false) ∙ l.invariant.4 in
-    record { next = ap (λ (x : Laid). x.to) e; laid = ap (λ (x : Laid). x.room) e }
+returns-clause-next c =
+    let l = c.loop-rest in
+    let none : length l.rest.now ≤ 0 = grind (arith, common_steps, c.is_empty.ensures, c.loop-rest-test.false) in
+    ap (λ (x : Laid). x.to) (sym (no_words l.invariant.1 l.rest.now 0 l.room l.size none) ∙ l.invariant.3)
+
+pub returns-clause-laid : goal.returns-clause-laid
+unfolding words_laid
+returns-clause-laid c =
+    let l = c.loop-rest in
+    let none : length l.rest.now ≤ 0 = grind (arith, common_steps, c.is_empty.ensures, c.loop-rest-test.false) in
+    ap (λ (x : Laid). x.room) (sym (no_words l.invariant.1 l.rest.now 0 l.room l.size none) ∙ l.invariant.3)
