@@ -1,13 +1,6 @@
 -- A string's state decides its footprint: a listed value matches the string exactly when the last of its pairs is in the state, and a row
 -- looks at nothing else.
-use Prim.Native.Nat.{ℕ, zero, suc, ◌<◌}
-use mathlib.Core.Path.{◌≡◌, refl, sym, ◌∙◌, ap, ap₂}
-use mathlib.Core.Bool.{Bool, true, false, ◌&&◌, ◌||◌}
-use mathlib.Core.List.{List, [], ◌∷◌, ◌++◌, map}
-use native.Mathlib.Nat.{not-suc-le-zero}
-use native.Mathlib.Omega.{arith}
-use lib.Dec.{eqb}
-use lib.ListN.{length}
+use Rattle.std.proofs.Common.{ℕ, zero, suc, ◌<◌, ◌≡◌, refl, sym, ◌∙◌, ap, ap₂, Bool, true, false, ◌&&◌, ◌||◌, List, [], ◌∷◌, ◌++◌, map, not-suc-le-zero, arith, eqb, length}
 use lib.Seq.{take-length}
 use Rattle.stored.specs.Choice.{pick, some, every}
 use Rattle.stored.specs.Items.{column_place, column_negated}

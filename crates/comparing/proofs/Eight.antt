@@ -1,8 +1,5 @@
 -- What has eight columns is eight values, one behind the other.
-use mathlib.Core.Path.{◌≡◌}
-use mathlib.Core.List.{List, [], ◌∷◌}
-use native.Mathlib.Omega.{arith}
-use lib.ListN.{length}
+use Rattle.std.proofs.Common.{◌≡◌, List, [], ◌∷◌, arith, length}
 use Rattle.judging.specs.Requests.{Value, columns}
 
 -- what holds of every eight values holds of every list of eight

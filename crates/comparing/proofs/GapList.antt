@@ -1,13 +1,7 @@
 -- What follows from `Gaps`, which says which list is the list of gaps, for requests of any length. `Counted` says how many
 -- there are and `IsGap` which is gap k; `AlikeFrom .. 0` says that every statement of both tables holds alike of both requests, column by
 -- column; a request has eight columns, and its strings may be of any length.
-use Prim.Native.Nat.{ℕ, ◌<◌}
-use mathlib.Core.Path.{◌≡◌, refl, sym, ◌∙◌, subst}
-use mathlib.Core.Bool.{Bool, true, false, true≢false}
-use mathlib.Core.List.{List, [], ◌∷◌}
-use mathlib.Core.Logic.{◌↔◌}
-use native.Mathlib.Omega.{arith}
-use lib.ListN.{length, get_or}
+use Rattle.std.proofs.Common.{ℕ, ◌<◌, ◌≡◌, refl, sym, ◌∙◌, subst, Bool, true, false, true≢false, List, [], ◌∷◌, ◌↔◌, arith, length, get_or}
 use Rattle.stored.specs.Reading.{reading, ReadAnswer as A}
 use Rattle.stored.specs.Tables.{Statement}
 use Rattle.judging.specs.Requests.{Value}

@@ -1,14 +1,6 @@
 -- A request has no faulty column, so the judge says of it what the statements of a table that reads say; and so the judge answers the
 -- same for two requests that are alike.
-use Prim.Native.Nat.{ℕ, suc}
-use mathlib.Core.Path.{◌≡◌, refl, sym, ◌∙◌, ap, ap₂}
-use mathlib.Core.Bool.{Bool, true, false, not, ◌&&◌, ◌||◌}
-use mathlib.Core.List.{List, [], ◌∷◌}
-use mathlib.Core.Logic.{◌↔◌}
-use native.Mathlib.Omega.{arith}
-use lib.Dec.{eqb, ltb}
-use lib.ListN.{length}
-use borrow.Author.Tests.{ne_eqb}
+use Rattle.std.proofs.Common.{ℕ, suc, ◌≡◌, refl, sym, ◌∙◌, ap, ap₂, Bool, true, false, not, ◌&&◌, ◌||◌, List, [], ◌∷◌, ◌↔◌, arith, eqb, ltb, length, ne_eqb}
 use Rattle.stored.specs.Choice.{pick}
 use Rattle.stored.specs.Values.{in_range}
 use Rattle.stored.specs.Reading.{reading, ReadAnswer, ReadAnswer as A}

@@ -1,15 +1,6 @@
 -- What the answers mean in the judge's words: a case of `Outcome` that answers says that both tables read, and the judge says of a request
 -- what the statements of a table that reads say.
-use Prim.Native.Nat.{ℕ, ◌≤◌, ◌<◌}
-use mathlib.Core.Path.{◌≡◌, refl, sym, ◌∙◌, ap, ap₂, subst}
-use mathlib.Core.Bool.{Bool, true, false}
-use mathlib.Core.List.{List, ◌++◌}
-use mathlib.Core.Logic.{◌⊎◌, inr, ◌↔◌}
-use native.Mathlib.Omega.{arith}
-use lib.Dec.{ltb}
-use lib.ListN.{length, take, drop, length-append, length-drop}
-use lib.Seq.{take_at, drop_at}
-use borrow.Author.Tests.{ltb-true, ltb-false}
+use Rattle.std.proofs.Common.{ℕ, ◌≤◌, ◌<◌, ◌≡◌, refl, sym, ◌∙◌, ap, ap₂, subst, Bool, true, false, List, ◌++◌, ◌⊎◌, inr, ◌↔◌, arith, ltb, length, take, drop, length-append, length-drop, take_at, drop_at, ltb-true, ltb-false}
 use Rattle.stored.proofs.Choosing.{never}
 use Rattle.judging.specs.Requests.{Value, columns, column_of}
 use Rattle.judging.specs.Meaning.{is_allowed}

@@ -1,11 +1,5 @@
 -- Members and order of lists that are joined, mapped and filtered.
-use Prim.Native.Nat.{ℕ, zero, suc, ◌<◌}
-use mathlib.Core.Path.{◌≡◌, refl, sym, ◌∙◌, ap, ap₂, subst}
-use mathlib.Core.Bool.{Bool, true, false, true≢false, ◌||◌}
-use mathlib.Core.List.{List, [], ◌∷◌, ◌++◌, map}
-use mathlib.Core.Logic.{◌⊎◌, inl, inr}
-use native.Mathlib.Nat.{not-suc-le-zero, le_of_suc-le-suc}
-use lib.ListN.{length, get_or}
+use Rattle.std.proofs.Common.{ℕ, zero, suc, ◌<◌, ◌≡◌, refl, sym, ◌∙◌, ap, ap₂, subst, Bool, true, false, true≢false, ◌||◌, List, [], ◌∷◌, ◌++◌, map, ◌⊎◌, inl, inr, not-suc-le-zero, le_of_suc-le-suc, length, get_or}
 use Rattle.stored.specs.Choice.{pick, some}
 use Rattle.comparing.specs.Order.{In, Ascending}
 use Rattle.comparing.specs.Machinery.Product.{keep}

@@ -1,14 +1,6 @@
 -- The comparison leaves one answer: the lowest wide column is computed, the lowest crowded column is one since at most 512 states are
 -- not more than 512, and the counts of footprints are unique.
-use Prim.Native.Nat.{ℕ, suc, ◌+◌}
-use mathlib.Core.Path.{◌≡◌, refl, sym, ap, ap₂, ◌∙◌, subst}
-use mathlib.Core.Bool.{Bool, true, false, ◌||◌}
-use mathlib.Core.List.{List, [], ◌∷◌, ◌++◌}
-use mathlib.Core.Logic.{inl, inr}
-use native.Mathlib.Omega.{arith}
-use lib.Dec.{ltb, leb}
-use lib.ListN.{length, drop}
-use borrow.Author.Tests.{leb-true, leb-false}
+use Rattle.std.proofs.Common.{ℕ, suc, ◌+◌, ◌≡◌, refl, sym, ap, ap₂, ◌∙◌, subst, Bool, true, false, ◌||◌, List, [], ◌∷◌, ◌++◌, inl, inr, arith, ltb, leb, length, drop, leb-true, leb-false}
 use Rattle.stored.specs.Choice.{pick}
 use Rattle.stored.specs.Reading.{reading, ReadAnswer, ReadAnswer as A}
 use Rattle.stored.specs.Tables.{Statement}

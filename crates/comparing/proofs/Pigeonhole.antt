@@ -1,11 +1,6 @@
 -- Counts of different things are unique. Things that a function tells apart, each like one of a list, are no more than the list is long:
 -- each takes a position of its own out of it. So no equality test is needed.
-use Prim.Native.Nat.{ℕ, suc, ◌≤◌}
-use mathlib.Core.Path.{◌≡◌, refl, sym, ap, ◌∙◌}
-use mathlib.Core.List.{List, [], ◌∷◌}
-use mathlib.Core.Logic.{◌⊎◌, inl, inr}
-use native.Mathlib.Omega.{arith}
-use lib.ListN.{length}
+use Rattle.std.proofs.Common.{ℕ, suc, ◌≤◌, ◌≡◌, refl, sym, ap, ◌∙◌, List, [], ◌∷◌, ◌⊎◌, inl, inr, arith, length}
 use Rattle.comparing.specs.Order.{In}
 use Rattle.comparing.specs.Counts.{Apart, Different, MoreThan}
 

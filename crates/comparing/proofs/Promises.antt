@@ -1,13 +1,7 @@
 -- What comparing promises, in statements that can be read without their proofs. `Compared` and `Shown` are what the two questions may
 -- answer: the number of gaps of two tables, and gap k; `judgement` is what the judge answers. A request has eight columns, and its strings
 -- may be of any length. `AlikeFrom .. 0` says that every statement of both tables holds alike of two requests, column by column.
-use Prim.Native.Nat.{ℕ, ◌≤◌, ◌<◌}
-use mathlib.Core.Path.{◌≡◌}
-use mathlib.Core.Bool.{true, false, ◌||◌}
-use mathlib.Core.List.{List, [], ◌++◌}
-use mathlib.Core.Logic.{◌↔◌}
-use lib.Dec.{ltb}
-use lib.ListN.{length, get_or}
+use Rattle.std.proofs.Common.{ℕ, ◌≤◌, ◌<◌, ◌≡◌, true, false, ◌||◌, List, [], ◌++◌, ◌↔◌, ltb, length, get_or}
 use Rattle.stored.specs.Reading.{reading, ReadAnswer as A}
 use Rattle.stored.specs.Tables.{Statement}
 use Rattle.matching.specs.State.{state_of}

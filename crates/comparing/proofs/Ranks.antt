@@ -1,14 +1,6 @@
 -- Strings as numbers: read as digits to the base 128, no byte being 0, strings stand in the order of their numbers: shorter first, then
 -- smaller bytes.
-use Prim.Native.Nat.{ℕ, ◌+◌, ◌*◌, ◌≤◌, ◌<◌}
-use mathlib.Core.Path.{◌≡◌, refl, ◌∙◌, ap, ap₂}
-use mathlib.Core.Bool.{true, ◌&&◌}
-use mathlib.Core.List.{List, [], ◌∷◌, ◌++◌}
-use mathlib.Core.Logic.{inl, inr}
-use native.Mathlib.Omega.{arith}
-use lib.Dec.{leb}
-use lib.ListN.{length, length-append}
-use borrow.Author.Tests.{leb-true, le-leb}
+use Rattle.std.proofs.Common.{ℕ, ◌+◌, ◌*◌, ◌≤◌, ◌<◌, ◌≡◌, refl, ◌∙◌, ap, ap₂, true, ◌&&◌, List, [], ◌∷◌, ◌++◌, inl, inr, arith, leb, length, length-append, leb-true, le-leb}
 use Rattle.stored.specs.Values.{byte_in_range, in_range}
 use Rattle.stored.proofs.Choosing.{both_left, both_right}
 use Rattle.matching.specs.Machinery.Rows.{forward}

@@ -1,14 +1,7 @@
 -- A request is what the judge can be given and does not refuse with 9: the judge refuses the lowest faulty column, a column that is not
 -- faulty holds an admitted value, and every admitted value is said by bytes or a number.
-use Prim.Native.Nat.{ℕ, suc, ◌+◌, ◌^◌, ◌≤◌, ◌<◌}
-use mathlib.Core.Path.{◌≡◌, refl, sym, ◌∙◌, ap₂, subst}
-use mathlib.Core.Bool.{Bool, true, false, not, ◌&&◌, ◌||◌}
-use mathlib.Core.List.{List, [], ◌∷◌}
-use mathlib.Core.Logic.{◌↔◌}
-use native.Mathlib.Omega.{arith}
-use lib.Dec.{eqb, leb, ltb}
-use lib.ListN.{length}
-use borrow.Author.Tests.{ltb-true, ltb-false, leb-true, le-ltb, eqb-false}
+use Rattle.std.proofs.Common.{ℕ, suc, ◌+◌, ◌^◌, ◌≤◌, ◌<◌, ◌≡◌, refl, sym, ◌∙◌, ap₂, subst, Bool, true, false, not, ◌&&◌, ◌||◌, List, [], ◌∷◌, ◌↔◌, arith, eqb, leb, ltb, length, ltb-true, ltb-false, leb-true, le-ltb}
+use borrow.Author.Tests.{eqb-false}
 use Rattle.stored.specs.Choice.{pick}
 use Rattle.stored.specs.Values.{byte_in_range, in_range}
 use Rattle.stored.specs.Records.{record_at}

@@ -1,8 +1,5 @@
 -- Strings with the same state have the same state when the same bytes follow.
-use Prim.Native.Nat.{ℕ, ◌≤◌}
-use mathlib.Core.Path.{◌≡◌, sym, ◌∙◌, ap}
-use mathlib.Core.List.{List, [], ◌∷◌, ◌++◌, append_assoc, append-nil}
-use lib.ListN.{length}
+use Rattle.std.proofs.Common.{ℕ, ◌≤◌, ◌≡◌, sym, ◌∙◌, ap, List, [], ◌∷◌, ◌++◌, append_assoc, append-nil, length}
 use Rattle.matching.specs.State.{state_of}
 use Rattle.matching.specs.Machinery.Codes.{codes_of}
 use Rattle.matching.specs.Machinery.Rows.{positions, step_row, row_of}

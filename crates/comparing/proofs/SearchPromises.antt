@@ -1,10 +1,6 @@
 -- What the search behind the comparison promises: a finished search has found just the states of all strings, each by its first string.
 -- `Explored` says that a search is finished, `row_of` is the row of words that a string's state fills.
-use Prim.Native.Nat.{ℕ, ◌≤◌, ◌<◌}
-use mathlib.Core.Path.{◌≡◌}
-use mathlib.Core.Bool.{true}
-use mathlib.Core.List.{List}
-use lib.ListN.{length}
+use Rattle.std.proofs.Common.{ℕ, ◌≤◌, ◌<◌, ◌≡◌, true, List, length}
 use Rattle.stored.specs.Values.{in_range}
 use Rattle.matching.specs.Machinery.Codes.{codes_of}
 use Rattle.matching.specs.Machinery.Rows.{row_of}

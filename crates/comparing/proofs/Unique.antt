@@ -1,9 +1,5 @@
 -- Two tables have one list of gaps: first values are unique, and an ascending list is given by its members.
-use Prim.Native.Nat.{ℕ, suc}
-use mathlib.Core.Path.{◌≡◌, refl, sym, ◌∙◌, ap, ap₂, subst}
-use mathlib.Core.List.{List, [], ◌∷◌}
-use mathlib.Core.Logic.{inl, inr}
-use lib.ListN.{length, get_or}
+use Rattle.std.proofs.Common.{ℕ, suc, ◌≡◌, refl, sym, ◌∙◌, ap, ap₂, subst, List, [], ◌∷◌, inl, inr, length, get_or}
 use Rattle.stored.specs.Tables.{Statement}
 use Rattle.judging.specs.Requests.{Value}
 use Rattle.comparing.specs.Order.{Before, Earlier, In, Ascending}

@@ -1,14 +1,6 @@
 -- Each of the eight columns has a list of the first values that show its footprints, where no column has too many states: strings up to
 -- the longest that shows a state are enough, with one byte more in columns 0 to 2, which hold no empty string.
-use Prim.Native.Nat.{ℕ, zero, suc, ◌+◌, ◌≤◌, ◌<◌, ◌^◌}
-use mathlib.Core.Path.{◌≡◌, refl, sym, ap, subst}
-use mathlib.Core.Bool.{Bool, true, false}
-use mathlib.Core.List.{List, [], ◌∷◌, ◌++◌, map}
-use mathlib.Core.Logic.{inl, inr}
-use native.Mathlib.Omega.{arith}
-use lib.Dec.{ltb}
-use lib.ListN.{length, length-append}
-use borrow.Author.Tests.{ltb-true, ltb-false}
+use Rattle.std.proofs.Common.{ℕ, zero, suc, ◌+◌, ◌≤◌, ◌<◌, ◌^◌, ◌≡◌, refl, sym, ap, subst, Bool, true, false, List, [], ◌∷◌, ◌++◌, map, inl, inr, arith, ltb, length, length-append, ltb-true, ltb-false}
 use Rattle.stored.specs.Tables.{Statement}
 use Rattle.matching.specs.Machinery.Codes.{codes_of}
 use Rattle.matching.specs.State.{state_of}

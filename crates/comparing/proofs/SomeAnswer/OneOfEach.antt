@@ -1,8 +1,7 @@
 -- What a function tells apart: a search for an element that is like none of a list, and of the elements of a list that are alike the first.
-use mathlib.Core.Path.{◌≡◌, refl, sym, ap, subst, ◌∙◌}
-use mathlib.Core.Bool.{Bool, true, false, true≢false, Bool-discrete}
-use mathlib.Core.List.{List, [], ◌∷◌, List-discrete}
-use mathlib.Core.Logic.{◌⊎◌, inl, inr}
+use Rattle.std.proofs.Common.{◌≡◌, refl, sym, ap, subst, ◌∙◌, Bool, true, false, true≢false, List, [], ◌∷◌, ◌⊎◌, inl, inr}
+use mathlib.Core.Bool.{Bool-discrete}
+use mathlib.Core.List.{List-discrete}
 use Rattle.comparing.specs.Order.{In, Ascending}
 use Rattle.comparing.specs.Machinery.Product.{keep}
 use Rattle.comparing.proofs.Members.{in_kept, kept_in, ascending-kept}

@@ -1,7 +1,5 @@
 -- An operation on each element of one list with each of another.
-use mathlib.Core.Path.{◌≡◌, refl, sym, subst}
-use mathlib.Core.List.{List, [], ◌∷◌, ◌++◌, map}
-use mathlib.Core.Logic.{◌⊎◌, inl, inr}
+use Rattle.std.proofs.Common.{◌≡◌, refl, sym, subst, List, [], ◌∷◌, ◌++◌, map, ◌⊎◌, inl, inr}
 use Rattle.comparing.specs.Order.{In, Ascending}
 use Rattle.comparing.proofs.Members.{in-joined, in_left, in_right, in-mapped, mapped_in, ascending-joined, ascending-mapped}
 

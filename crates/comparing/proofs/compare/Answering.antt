@@ -1,13 +1,6 @@
 -- What a survey of the columns gives the two questions: each refusal in its turn, and what is left when none is given.
-use Prim.Native.Nat.{ℕ, suc, ◌+◌, ◌-◌, ◌^◌, ◌≤◌, ◌<◌}
-use mathlib.Core.Path.{◌≡◌, refl, sym, ◌∙◌, ap, ap₂, subst}
-use mathlib.Core.Bool.{Bool, true, false, ◌||◌}
-use mathlib.Core.List.{List, [], ◌∷◌, ◌++◌, map}
-use mathlib.Core.Logic.{◌⊎◌, inl, inr}
-use lib.Dec.{ltb}
-use lib.ListN.{length, replicate, length-map}
-use borrow.Author.Tests.{lt-ltb, le-ltb}
-use Rattle.std.specs.Prelude.{Result, Ok, Err}
+use Rattle.std.proofs.Common.{ℕ, suc, ◌+◌, ◌-◌, ◌^◌, ◌≤◌, ◌<◌, ◌≡◌, refl, sym, ◌∙◌, ap, ap₂, subst, Bool, true, false, ◌||◌, List, [], ◌∷◌, ◌++◌, map, ◌⊎◌, inl, inr, ltb, length, replicate, lt-ltb, le-ltb, Result, Ok, Err}
+use lib.ListN.{length-map}
 use Rattle.refusals.specs.Numbers.{number_of}
 use Rattle.stored.specs.Reading.{reading, ReadAnswer as A}
 use Rattle.stored.specs.Tables.{Statement}

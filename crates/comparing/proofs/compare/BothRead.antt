@@ -1,7 +1,5 @@
 -- Two tables that were read meet what the survey asks of them.
-use Prim.Native.Nat.{ℕ}
-use mathlib.Core.Path.{◌≡◌}
-use mathlib.Core.List.{List}
+use Rattle.std.proofs.Common.{ℕ, ◌≡◌, List}
 use Rattle.stored.specs.Reading.{reading, ReadAnswer as A}
 use Rattle.stored.proofs.Accepting.{accepted, counted, few}
 use Rattle.columns.specs.Machinery.Both.{BothRead}

@@ -1,14 +1,6 @@
 -- What the workspace holds after either question: 14 is given exactly where lent memory is too short, since no other case has that number;
 -- the contract then leaves the workspace as it was, and else all zero.
-use Prim.Native.Nat.{ℕ, ◌<◌}
-use mathlib.Core.Path.{◌≡◌, refl, sym, ◌∙◌, ap, ap₂}
-use mathlib.Core.Bool.{Bool, true, false, ◌||◌}
-use mathlib.Core.List.{List}
-use mathlib.Core.Logic.{◌⊎◌, inl, inr}
-use native.Mathlib.Omega.{arith}
-use lib.Dec.{ltb}
-use lib.ListN.{length}
-use borrow.Author.Tests.{lt-ltb, le-ltb}
+use Rattle.std.proofs.Common.{ℕ, ◌<◌, ◌≡◌, refl, sym, ◌∙◌, ap, ap₂, Bool, true, false, ◌||◌, List, ◌⊎◌, inl, inr, arith, ltb, length, lt-ltb, le-ltb}
 use Rattle.stored.specs.Tables.{Statement}
 use Rattle.stored.proofs.Promises.{refused-where}
 use Rattle.comparing.specs.Compared.{workspace_words, value_bytes, IsCount, Compared, keeps, Shown, cleared}

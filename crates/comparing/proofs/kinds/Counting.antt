@@ -1,16 +1,10 @@
 -- The recursion over the columns counts the gaps and finds gap k: the rows still left are those that hold in every column passed, so with
 -- each value it goes on to the requests that have this value in front.
-use Prim.Native.Nat.{ℕ, zero, suc, ◌+◌, ◌-◌, ◌^◌, ◌<◌, ◌≤◌}
-use mathlib.Core.Path.{◌≡◌, refl, sym, ◌∙◌, ap, ap₂, subst, fun_ext}
-use mathlib.Core.Bool.{Bool, true, false, ◌&&◌, and-true, and_assoc}
-use mathlib.Core.List.{List, [], ◌∷◌, ◌++◌, map}
-use native.Mathlib.Nat.{mod-eq_of_lt, not-suc-le-zero}
-use native.Mathlib.Omega.{arith}
-use lib.Bits.{bit_and, and_comm, and_mask}
-use lib.Dec.{ltb}
-use lib.ListN.{length, get_or, length-append, length-map, get_or-append}
-use lib.Seq.{get_or-append-add}
-use borrow.Author.Tests.{ltb-true, ltb-false}
+use Rattle.std.proofs.Common.{ℕ, zero, suc, ◌+◌, ◌-◌, ◌^◌, ◌<◌, ◌≤◌, ◌≡◌, refl, sym, ◌∙◌, ap, ap₂, subst, Bool, true, false, ◌&&◌, List, [], ◌∷◌, ◌++◌, map, mod-eq_of_lt, not-suc-le-zero, arith, bit_and, ltb, length, get_or, length-append, get_or-append-add, ltb-true, ltb-false}
+use mathlib.Core.Path.{fun_ext}
+use mathlib.Core.Bool.{and-true, and_assoc}
+use lib.Bits.{and_comm, and_mask}
+use lib.ListN.{length-map, get_or-append}
 use Rattle.stored.specs.Choice.{pick}
 use Rattle.stored.specs.Tables.{Statement}
 use Rattle.judging.specs.Requests.{Value, absent, columns}

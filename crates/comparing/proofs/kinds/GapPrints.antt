@@ -1,17 +1,7 @@
 -- Gap k's footprints are laid column by column: those before a column are in place and the others 0, as they are behind a column that
 -- has no footprint.
-use Prim.Native.Nat.{ℕ, zero, suc, ◌+◌, ◌-◌, ◌≤◌, ◌<◌}
-use mathlib.Core.Path.{◌≡◌, refl, sym, ◌∙◌, ap, subst}
-use mathlib.Core.Bool.{Bool}
-use mathlib.Core.List.{List, [], ◌∷◌, ◌++◌, append_assoc}
-use native.Mathlib.Nat.{mod-eq_of_lt}
-use native.Mathlib.Numerals.{add-one}
-use native.Mathlib.Omega.{arith}
-use lib.Bits.{bit_and, and_zero_l, and_zero_r}
-use lib.ListN.{length, get_or, take, drop, set, replicate, take-append-drop, length-set}
-use lib.Pow.{pow_pos}
-use lib.Seq.{drop-drop, drop-set-lt, take-suc-set}
-use borrow.Author.Tests.{le-ltb}
+use Rattle.std.proofs.Common.{ℕ, zero, suc, ◌+◌, ◌-◌, ◌≤◌, ◌<◌, ◌≡◌, refl, sym, ◌∙◌, ap, subst, Bool, List, [], ◌∷◌, ◌++◌, append_assoc, mod-eq_of_lt, add-one, arith, bit_and, length, get_or, take, drop, set, replicate, take-append-drop, length-set, pow_pos, drop-drop, drop-set-lt, take-suc-set, le-ltb}
+use lib.Bits.{and_zero_l, and_zero_r}
 use Rattle.stored.specs.Choice.{pick}
 use Rattle.comparing.specs.Machinery.Kinds.{count_of, steps_to, left_of, step_of, prints_along, prints_from, prints_in}
 use Rattle.comparing.specs.declared.sides.Sides.{Sides}

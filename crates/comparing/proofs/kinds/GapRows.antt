@@ -1,17 +1,12 @@
 -- Gaps by sets of rows are gaps by statements: of a word of both tables' rows the low bits are the first table's and the high bits the
 -- second's, and a table allows where some row is left and all that are left allow.
-use Prim.Native.Nat.{ℕ, suc, ◌+◌, ◌*◌, ◌/◌, ◌%◌, ◌^◌, ◌<◌, ◌≤◌}
-use mathlib.Core.Path.{◌≡◌, refl, sym, ◌∙◌, ap, ap₂}
-use mathlib.Core.Bool.{Bool, true, false, not, ◌&&◌, ◌||◌, and_comm}
-use mathlib.Core.List.{List, [], ◌∷◌, ◌++◌, map}
-use native.Mathlib.Nat.{mul_comm, add_comm}
-use native.Mathlib.Omega.{arith}
+use Rattle.std.proofs.Common.{ℕ, suc, ◌+◌, ◌*◌, ◌/◌, ◌%◌, ◌^◌, ◌<◌, ◌≤◌, ◌≡◌, refl, sym, ◌∙◌, ap, ap₂, Bool, true, false, not, ◌&&◌, ◌||◌, List, [], ◌∷◌, ◌++◌, map, mul_comm, add_comm, arith, bit_and, eqb, length, ne_eqb}
+use mathlib.Core.Bool.{and_comm}
 use lib.Arith.{bin_ind}
-use lib.Bits.{bit_and, and_step, and_shr, and_mod, and_zero_l}
-use lib.Dec.{eqb}
-use lib.ListN.{length, length-map}
+use lib.Bits.{and_step, and_shr, and_mod, and_zero_l}
+use lib.ListN.{length-map}
 use lib.Pow.{low, high}
-use borrow.Author.Tests.{eqb-false, ne_eqb}
+use borrow.Author.Tests.{eqb-false}
 use Rattle.stored.specs.Choice.{some}
 use Rattle.stored.specs.Tables.{Statement}
 use Rattle.judging.specs.Requests.{Value}

@@ -1,10 +1,9 @@
 -- The footprints of the columns as they stand in the workspace: what a loop over a column has left to count, and to search, is a sum over the
 -- column's footprints from one on.
-use Rattle.std.proofs.Common.{ℕ, zero, suc, ◌+◌, ◌-◌, ◌*◌, ◌≤◌, ◌<◌, ◌≡◌, sym, ◌∙◌, ap, subst, Bool, List, [], ◌∷◌, map, add-one, arith, bit_and, length, get_or, drop, length-drop, drop-cons}
+use Rattle.std.proofs.Common.{ℕ, zero, suc, ◌+◌, ◌-◌, ◌*◌, ◌≤◌, ◌<◌, ◌≡◌, sym, ◌∙◌, ap, subst, Bool, List, [], ◌∷◌, map, add-one, arith, bit_and, length, get_or, drop, length-drop, drop-cons, lt-ltb, le-ltb}
 use Rattle.std.proofs.Math.Nat.{le_trans, suc-mul}
 use Rattle.std.proofs.Math.ListN.{drop_of_length-le}
 use Rattle.std.proofs.Math.Seq.{length-take-le}
-use borrow.Author.Tests.{lt-ltb, le-ltb}
 use Rattle.stored.specs.Choice.{pick}
 use Rattle.states.specs.Machinery.Rows.{prints_at}
 use Rattle.comparing.specs.Compared.{product, most_kinds}

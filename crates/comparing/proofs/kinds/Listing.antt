@@ -1,11 +1,6 @@
 -- Members of lists that are made longer by one, lists under functions that agree, and tests for a number.
-use Prim.Native.Nat.{ℕ}
-use mathlib.Core.Path.{◌≡◌, refl, sym, ◌∙◌, ap, ap₂}
-use mathlib.Core.Bool.{Bool, true, false, ◌||◌}
-use mathlib.Core.List.{List, [], ◌∷◌, ◌++◌, map}
-use mathlib.Core.Logic.{◌⊎◌, inl, inr}
-use lib.Dec.{eqb}
-use borrow.Author.Tests.{eqb-true, eqb-false}
+use Rattle.std.proofs.Common.{ℕ, ◌≡◌, refl, sym, ◌∙◌, ap, ap₂, Bool, true, false, ◌||◌, List, [], ◌∷◌, ◌++◌, map, ◌⊎◌, inl, inr, eqb, eqb-true}
+use borrow.Author.Tests.{eqb-false}
 use Rattle.stored.specs.Choice.{some}
 use Rattle.stored.proofs.Choosing.{never}
 use Rattle.comparing.specs.Order.{In, Ascending}

@@ -1,16 +1,7 @@
 -- Where all rows left are in every footprint of the columns ahead, all kinds there have the same rows, and so the same verdict.
-use Prim.Native.Nat.{ℕ, zero, suc, ◌+◌, ◌-◌, ◌*◌, ◌/◌, ◌%◌, ◌^◌, ◌<◌, ◌≤◌}
-use mathlib.Core.Path.{◌≡◌, refl, sym, ◌∙◌, ap, ap₂}
-use mathlib.Core.Bool.{Bool, true, false, ◌||◌}
-use mathlib.Core.List.{List, [], ◌∷◌, map}
-use native.Mathlib.Nat.{suc-mul, mul_assoc, mul-add, mul_comm, mul-le-mul, mod-lt, mod-eq_of_lt, div-add-mod', mul-add-mod_self_right}
-use native.Mathlib.Numerals.{add-one}
-use native.Mathlib.Omega.{arith}
-use lib.Bits.{bit_and, and_comm, and_le_r}
-use lib.Dec.{eqb, ltb}
-use lib.ListN.{length, get_or, set, length-set}
-use lib.Seq.{get_or-set_same, get_or-set_other}
-use borrow.Author.Tests.{eqb-true, ltb-true, ltb-false}
+use Rattle.std.proofs.Common.{ℕ, zero, suc, ◌+◌, ◌-◌, ◌*◌, ◌/◌, ◌%◌, ◌^◌, ◌<◌, ◌≤◌, ◌≡◌, refl, sym, ◌∙◌, ap, ap₂, Bool, true, false, ◌||◌, List, [], ◌∷◌, map, suc-mul, mul_assoc, mul-add, mul_comm, mul-le-mul, mod-lt, mod-eq_of_lt, div-add-mod', add-one, arith, bit_and, eqb, ltb, length, get_or, set, length-set, get_or-set_same, get_or-set_other, eqb-true, ltb-true, ltb-false}
+use native.Mathlib.Nat.{mul-add-mod_self_right}
+use lib.Bits.{and_comm, and_le_r}
 use Rattle.judging.specs.Machinery.Rows.{bit_of}
 use Rattle.comparing.specs.Compared.{product, most_kinds}
 use Rattle.comparing.specs.Machinery.Kinds.{is_gap_rows, total, count_of, meet_all, meet_of, is_settled, prints_from, prints_in, Bounded, kinds_from, KindsAhead}

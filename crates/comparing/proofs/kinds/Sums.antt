@@ -1,13 +1,5 @@
 -- Sums over a list, and where a number falls in one.
-use Prim.Native.Nat.{ℕ, suc, ◌+◌, ◌-◌, ◌*◌, ◌<◌, ◌≤◌}
-use mathlib.Core.Path.{◌≡◌, refl, ap₂}
-use mathlib.Core.Bool.{Bool, true, false}
-use mathlib.Core.List.{List, [], ◌∷◌}
-use native.Mathlib.Nat.{suc-mul, not-suc-le-zero}
-use native.Mathlib.Omega.{arith}
-use lib.Dec.{ltb}
-use lib.ListN.{length, get_or}
-use borrow.Author.Tests.{ltb-true, ltb-false}
+use Rattle.std.proofs.Common.{ℕ, suc, ◌+◌, ◌-◌, ◌*◌, ◌<◌, ◌≤◌, ◌≡◌, refl, ap₂, Bool, true, false, List, [], ◌∷◌, suc-mul, not-suc-le-zero, arith, ltb, length, get_or, ltb-true, ltb-false}
 use Rattle.stored.specs.Choice.{pick}
 use Rattle.comparing.specs.Machinery.Kinds.{total, steps_to, left_of}
 

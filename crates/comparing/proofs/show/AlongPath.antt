@@ -1,10 +1,5 @@
 -- The footprints found on the way to gap k are those of its values, and each of its values is the first of its column.
-use Prim.Native.Nat.{ℕ, zero, suc, ◌+◌, ◌-◌, ◌^◌, ◌≤◌, ◌<◌}
-use mathlib.Core.Path.{◌≡◌, refl, sym, ap₂, subst}
-use mathlib.Core.List.{List, [], ◌∷◌, map}
-use native.Mathlib.Omega.{arith}
-use lib.Bits.{bit_and}
-use lib.ListN.{length, get_or}
+use Rattle.std.proofs.Common.{ℕ, zero, suc, ◌+◌, ◌-◌, ◌^◌, ◌≤◌, ◌<◌, ◌≡◌, refl, sym, ap₂, subst, List, [], ◌∷◌, map, arith, bit_and, length, get_or}
 use Rattle.stored.specs.Tables.{Statement}
 use Rattle.judging.specs.Requests.{Value, absent, columns, column_of}
 use Rattle.comparing.specs.Requests.{Each}

@@ -1,14 +1,6 @@
 -- The first value that shows a footprint is the string of the lowest state that shows it: no string before it has that state or a later one,
 -- and the strings of the states before it have other footprints. Of addresses only the edges need to be looked at.
-use Prim.Native.Nat.{ℕ, zero, suc, ◌+◌, ◌^◌, ◌≤◌, ◌<◌}
-use mathlib.Core.Path.{◌≡◌, refl, sym, ◌∙◌, ap, subst}
-use mathlib.Core.Bool.{Bool, true, false}
-use mathlib.Core.List.{List, [], ◌∷◌, ◌++◌}
-use mathlib.Core.Logic.{inl, inr}
-use native.Mathlib.Omega.{arith}
-use lib.Dec.{ltb}
-use lib.ListN.{length}
-use borrow.Author.Tests.{ltb-true, ltb-false, lt-ltb, le-ltb}
+use Rattle.std.proofs.Common.{ℕ, zero, suc, ◌+◌, ◌^◌, ◌≤◌, ◌<◌, ◌≡◌, refl, sym, ◌∙◌, ap, subst, Bool, true, false, List, [], ◌∷◌, ◌++◌, inl, inr, arith, ltb, length, ltb-true, ltb-false, lt-ltb, le-ltb, Option, Some, None, IsSome}
 use Rattle.stored.specs.Choice.{pick}
 use Rattle.stored.specs.Values.{in_range}
 use Rattle.stored.specs.Tables.{Statement}
@@ -31,7 +23,6 @@ use Rattle.comparing.specs.Columns.{Few}
 use Rattle.comparing.specs.Compared.{bytes_in}
 use Rattle.comparing.specs.Machinery.Product.{print_of}
 use Rattle.comparing.specs.Machinery.ShownValues.{FirstWith, StartsAt, LowestState, FoundState, LaidValue, Lays, LaysString, NoneBelow}
-use Rattle.std.specs.Prelude.{Option, Some, None, IsSome}
 use Rattle.comparing.proofs.survey.Admitting.{needed, is-needed, optional, is-optional}
 use Rattle.comparing.proofs.survey.AllStates.{empty-alone, states-many}
 use Rattle.comparing.proofs.Deciding.{state-decides}

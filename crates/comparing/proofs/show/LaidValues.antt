@@ -1,13 +1,7 @@
 -- The values of a gap, laid one after the other over zeros, each in its 512 bytes: what is laid down is what the answer says.
-use Prim.Native.Nat.{ℕ, zero, suc, ◌+◌, ◌-◌, ◌*◌, ◌≤◌, ◌<◌}
-use mathlib.Core.Path.{◌≡◌, refl, sym, ◌∙◌, ap, ap₂}
-use mathlib.Core.Bool.{Bool}
-use Rattle.std.specs.Prelude.{Option, Some, is_some, unwrap_or}
-use mathlib.Core.List.{List, [], ◌∷◌, ◌++◌, append_assoc}
-use native.Mathlib.Omega.{arith}
-use lib.ListN.{length, drop, replicate, length-append, length-replicate, replicate-append-replicate}
-use lib.Seq.{sets, sets-eq, take_at, drop_at, drop-drop}
-use borrow.Author.Tests.{le-ltb}
+use Rattle.std.proofs.Common.{ℕ, zero, suc, ◌+◌, ◌-◌, ◌*◌, ◌≤◌, ◌<◌, ◌≡◌, refl, sym, ◌∙◌, ap, ap₂, Bool, Option, Some, is_some, unwrap_or, List, [], ◌∷◌, ◌++◌, append_assoc, arith, length, drop, replicate, length-append, take_at, drop_at, drop-drop, le-ltb}
+use lib.ListN.{length-replicate, replicate-append-replicate}
+use lib.Seq.{sets, sets-eq}
 use Rattle.stored.specs.Choice.{pick}
 use Rattle.stored.specs.Tables.{Statement}
 use Rattle.judging.specs.Requests.{Value, absent, text, number, is_present, columns, column_of}

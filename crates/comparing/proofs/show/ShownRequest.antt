@@ -1,14 +1,8 @@
 -- An answer for a gap and the value buffer give the gap's request back: each value stands in its 512 bytes, and the answer says which
 -- are there.
-use Prim.Native.Nat.{ℕ, zero, suc, ◌+◌, ◌-◌, ◌*◌, ◌≤◌, ◌<◌}
-use mathlib.Core.Path.{◌≡◌, refl, sym, ◌∙◌, ap, ap₂}
-use mathlib.Core.Bool.{Bool, true, false}
-use mathlib.Core.List.{List, [], ◌∷◌, ◌++◌, append_assoc}
-use native.Mathlib.Omega.{arith}
-use lib.Dec.{ltb}
-use lib.ListN.{length, take, drop, replicate, length-append, length-replicate}
-use lib.Seq.{take_at, drop_at, take-append_seam, drop-drop}
-use borrow.Author.Tests.{ltb-false}
+use Rattle.std.proofs.Common.{ℕ, zero, suc, ◌+◌, ◌-◌, ◌*◌, ◌≤◌, ◌<◌, ◌≡◌, refl, sym, ◌∙◌, ap, ap₂, Bool, true, false, List, [], ◌∷◌, ◌++◌, append_assoc, arith, ltb, length, take, drop, replicate, length-append, take_at, drop_at, drop-drop, ltb-false}
+use lib.ListN.{length-replicate}
+use lib.Seq.{take-append_seam}
 use Rattle.stored.specs.Choice.{pick}
 use Rattle.judging.specs.Requests.{Value, absent, text, number, is_present, columns, column_of, key_value}
 use Rattle.comparing.specs.Requests.{AdmitsNeeded, AdmitsOptional, AdmitsAddress, Admitted, Each}

@@ -1,12 +1,6 @@
 -- Footprints in the workspace, from one bound to another: one after the other, one more behind them, and as the footprints of what was found.
-use Prim.Native.Nat.{ℕ, zero, suc, ◌+◌, ◌-◌, ◌≤◌, ◌<◌}
-use mathlib.Core.Path.{◌≡◌, refl, sym, ap, ap₂, ◌∙◌}
-use mathlib.Core.Bool.{Bool, true, false, ◌||◌}
-use mathlib.Core.List.{List, [], ◌∷◌, ◌++◌, map}
-use native.Mathlib.Omega.{arith}
-use lib.Dec.{eqb}
-use lib.ListN.{length, get_or, take, drop, set, length-drop}
-use lib.Seq.{drop-cons, drop-set-add, take-suc-set, length-take-le}
+use Rattle.std.proofs.Common.{ℕ, zero, suc, ◌+◌, ◌-◌, ◌≤◌, ◌<◌, ◌≡◌, refl, sym, ap, ap₂, ◌∙◌, Bool, true, false, ◌||◌, List, [], ◌∷◌, ◌++◌, map, arith, eqb, length, get_or, take, drop, set, length-drop, drop-cons, take-suc-set, length-take-le}
+use lib.Seq.{drop-set-add}
 use Rattle.std.specs.List.{list_any}
 use Rattle.stored.specs.Choice.{pick, some}
 use Rattle.states.specs.Machinery.Rows.{prints_at}

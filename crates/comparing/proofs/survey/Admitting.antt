@@ -1,9 +1,5 @@
 -- Which values a column admits, by the column's sort.
-use Prim.Native.Nat.{ℕ, ◌≤◌, ◌<◌}
-use mathlib.Core.Path.{sym, subst}
-use mathlib.Core.Bool.{Bool}
-use lib.Dec.{ltb}
-use borrow.Author.Tests.{lt-ltb, le-ltb}
+use Rattle.std.proofs.Common.{ℕ, ◌≤◌, ◌<◌, sym, subst, Bool, ltb, lt-ltb, le-ltb}
 use Rattle.stored.specs.Choice.{pick}
 use Rattle.judging.specs.Requests.{Value}
 use Rattle.comparing.specs.Requests.{Admitted, AdmitsNeeded, AdmitsOptional, AdmitsAddress}

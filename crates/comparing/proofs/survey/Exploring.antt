@@ -1,15 +1,7 @@
 -- A finished search has met the row of every string, and read off the keys each row has the first string that reaches it. Steps are
 -- tried by number, so a row's number, its key and the rank of its string ascend together.
-use Prim.Native.Nat.{ℕ, zero, suc, ◌+◌, ◌*◌, ◌/◌, ◌%◌, ◌≤◌, ◌<◌}
-use mathlib.Core.Path.{◌≡◌, refl, sym, ◌∙◌, ap, subst}
-use mathlib.Core.Bool.{Bool, true, false}
-use mathlib.Core.List.{List, [], ◌∷◌}
-use mathlib.Core.Logic.{◌⊎◌, inl, inr}
-use native.Mathlib.Nat.{div-add-mod'}
-use native.Mathlib.Omega.{arith}
-use lib.Dec.{eqb}
-use lib.ListN.{length}
-use borrow.Author.Tests.{eqb-false, ne_eqb}
+use Rattle.std.proofs.Common.{ℕ, zero, suc, ◌+◌, ◌*◌, ◌/◌, ◌%◌, ◌≤◌, ◌<◌, ◌≡◌, refl, sym, ◌∙◌, ap, subst, Bool, true, false, List, [], ◌∷◌, ◌⊎◌, inl, inr, div-add-mod', arith, eqb, length, ne_eqb}
+use borrow.Author.Tests.{eqb-false}
 use Rattle.stored.specs.Choice.{pick}
 use Rattle.stored.specs.Values.{in_range}
 use Rattle.matching.specs.Machinery.Rows.{step_row, row_of, forward, row_backward}

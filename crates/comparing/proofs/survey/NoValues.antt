@@ -1,11 +1,5 @@
 -- Where neither table has a value in a needed column, all strings are alike there, and the first admitted one is `!`.
-use Prim.Native.Nat.{ℕ, ◌<◌}
-use mathlib.Core.Path.{◌≡◌, refl, sym, ap, ◌∙◌}
-use mathlib.Core.Bool.{true}
-use mathlib.Core.List.{List, [], ◌∷◌, ◌++◌}
-use mathlib.Core.Logic.{◌⊎◌, inl, inr}
-use native.Mathlib.Omega.{arith}
-use lib.ListN.{length}
+use Rattle.std.proofs.Common.{ℕ, ◌<◌, ◌≡◌, refl, sym, ap, ◌∙◌, true, List, [], ◌∷◌, ◌++◌, ◌⊎◌, inl, inr, arith, length}
 use Rattle.stored.specs.Tables.{Statement}
 use Rattle.stored.specs.Values.{in_range}
 use Rattle.matching.specs.declared.reading.Reading.{Reading}

@@ -1,12 +1,6 @@
 -- The footprints of all columns fit: eight counts of 1 to 513 whose product is at most 16,777,216 have a sum of at most 1,094. A loop
 -- over the columns keeps three linear facts of the sum of (count minus 1) and of the product so far.
-use Prim.Native.Nat.{ℕ, ◌+◌, ◌-◌, ◌*◌, ◌≤◌}
-use mathlib.Core.Path.{◌≡◌, refl, sym, ap, ◌∙◌}
-use native.Mathlib.Nat.{mul-add, add-mul, mul-one, mul-le-mul_left}
-use native.Mathlib.Omega.{arith}
-use mathlib.Core.Bool.{Bool, true, false}
-use lib.Dec.{leb}
-use borrow.Author.Tests.{leb-true, leb-false}
+use Rattle.std.proofs.Common.{ℕ, ◌+◌, ◌-◌, ◌*◌, ◌≤◌, ◌≡◌, refl, sym, ap, ◌∙◌, mul-add, add-mul, mul-one, mul-le-mul_left, arith, Bool, true, false, leb, leb-true, leb-false}
 
 -- s: the sum of (count minus 1), p: the product of the counts so far
 pub record Room (s p : ℕ) : Type 0 where

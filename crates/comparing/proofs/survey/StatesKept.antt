@@ -1,11 +1,5 @@
 -- The rows and keys of a search are not touched by what is written behind them.
-use Prim.Native.Nat.{ℕ, ◌+◌, ◌*◌, ◌/◌, ◌%◌, ◌≤◌, ◌<◌}
-use mathlib.Core.Path.{◌≡◌, sym, ap, ◌∙◌, subst}
-use mathlib.Core.List.{List, ◌++◌}
-use mathlib.Core.Logic.{◌⊎◌, inl, inr}
-use native.Mathlib.Omega.{arith}
-use lib.ListN.{get_or, take}
-use lib.Seq.{get_or-take}
+use Rattle.std.proofs.Common.{ℕ, ◌+◌, ◌*◌, ◌/◌, ◌%◌, ◌≤◌, ◌<◌, ◌≡◌, sym, ap, ◌∙◌, subst, List, ◌++◌, ◌⊎◌, inl, inr, arith, get_or, take, get_or-take}
 use Rattle.stored.specs.Tables.{Statement}
 use Rattle.matching.specs.Machinery.Codes.{codes_of}
 use Rattle.matching.specs.Machinery.Rows.{step_row}

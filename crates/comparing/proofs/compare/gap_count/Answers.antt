@@ -1,6 +1,5 @@
 -- A workspace that is too short is left as it is; else all of it is zero at the end.
-use Rattle.std.proofs.Common.{ℕ, ◌∙◌, ap, Err, length, replicate, ltb}
-use borrow.Author.Tests.{lt-ltb, le-ltb}
+use Rattle.std.proofs.Common.{ℕ, ◌∙◌, ap, Err, length, replicate, ltb, lt-ltb, le-ltb}
 use Rattle.comparing.specs.Answers.{Counting as C, as_counting}
 use Rattle.comparing.specs.Compared.{IsCount, workspace_words}
 use Rattle.comparing.specs.declared.answers.Refused.{Refused}

@@ -1,6 +1,5 @@
 -- The remainder of the count before the product changes no remainder of the product, and keeps it within a word.
-use Prim.Native.Nat.{◌^◌}
-use native.Mathlib.Omega.{arith}
+use Rattle.std.proofs.Common.{◌^◌, arith}
 use Rattle.comparing.proofs.kinds.Settling.{remainder-times, product-fits}
 use Rattle.comparing.proofs.kinds.kinds_with.Goals as goal
 

@@ -1,6 +1,5 @@
 -- None of the states before the one at hand has the footprint: that is the invariant.
-use Prim.Native.Nat.{ℕ, ◌≤◌, ◌<◌}
-use mathlib.Core.Path.{◌≡◌}
+use Rattle.std.proofs.Common.{ℕ, ◌≤◌, ◌<◌, ◌≡◌}
 use Rattle.judging.specs.Requests.{text}
 use Rattle.judging.specs.Judging.{rows_of}
 use Rattle.states.specs.Machinery.Search.{string_of}

@@ -1,7 +1,4 @@
-use Prim.Native.Nat.{ℕ, ◌^◌}
-use mathlib.Core.Path.{◌≡◌, sym, ◌∙◌, ap, subst}
-use mathlib.Core.List.{◌++◌}
-use native.Mathlib.Omega.{arith}
+use Rattle.std.proofs.Common.{ℕ, ◌^◌, ◌≡◌, sym, ◌∙◌, ap, subst, ◌++◌, arith}
 use Rattle.judging.specs.Requests.{is_present}
 use Rattle.judging.specs.Judging.{rows_of}
 use Rattle.columns.specs.Values.{networks_in}

@@ -1,7 +1,6 @@
 -- No address below the one at hand has the footprint, and absence has not: that is the invariant. An address between two edges is like the
 -- edge below it.
-use Prim.Native.Nat.{◌-◌, ◌^◌, ◌≤◌}
-use mathlib.Core.Path.{◌≡◌}
+use Rattle.std.proofs.Common.{◌-◌, ◌^◌, ◌≤◌, ◌≡◌}
 use Rattle.judging.specs.Requests.{absent}
 use Rattle.judging.specs.Judging.{rows_of}
 use Rattle.comparing.specs.Machinery.Product.{print_of}

@@ -1,8 +1,5 @@
 -- Each column shows the first value with its footprint, and the values lie one behind the other over zeros.
-use Prim.Native.Nat.{ℕ, ◌<◌}
-use mathlib.Core.Path.{◌∙◌}
-use native.Mathlib.Omega.{arith}
-use lib.ListN.{get_or}
+use Rattle.std.proofs.Common.{ℕ, ◌<◌, ◌∙◌, arith, get_or}
 use Rattle.judging.specs.Requests.{column_of}
 use Rattle.judging.specs.Judging.{rows_of}
 use Rattle.columns.proofs.PlansLaid.{addresses-fit}

@@ -1,10 +1,5 @@
 -- Where absence shows the footprint, that is the first value; else the string of the lowest state that shows it.
-use mathlib.Core.Path.{refl, sym, ◌∙◌, subst}
-use Prim.Native.Nat.{ℕ}
-use mathlib.Core.Bool.{true}
-use mathlib.Core.List.{◌++◌}
-use native.Mathlib.Omega.{arith}
-use Rattle.std.specs.Prelude.{Some, None}
+use Rattle.std.proofs.Common.{refl, sym, ◌∙◌, subst, ℕ, true, ◌++◌, arith, Some, None}
 use Rattle.judging.specs.Requests.{Value}
 use Rattle.judging.specs.Judging.{rows_of}
 use Rattle.columns.specs.Machinery.Plan.{HasPlans}

@@ -1,10 +1,5 @@
 -- Where nothing is listed, one byte is the first value; else the string of the lowest state that shows it.
-use mathlib.Core.Path.{sym, ◌∙◌, subst}
-use Prim.Native.Nat.{ℕ}
-use mathlib.Core.Bool.{true}
-use mathlib.Core.List.{◌++◌}
-use native.Mathlib.Omega.{arith}
-use Rattle.std.specs.Prelude.{Some}
+use Rattle.std.proofs.Common.{sym, ◌∙◌, subst, ℕ, true, ◌++◌, arith, Some}
 use Rattle.judging.specs.Requests.{Value}
 use Rattle.judging.specs.Judging.{rows_of}
 use Rattle.columns.specs.Values.{values_in}

@@ -1,8 +1,4 @@
-use Prim.Native.Nat.{ℕ, ◌+◌}
-use mathlib.Core.Path.{refl, sym, ◌∙◌, subst}
-use mathlib.Core.Bool.{false}
-use mathlib.Core.List.{◌++◌}
-use native.Mathlib.Omega.{arith}
+use Rattle.std.proofs.Common.{ℕ, ◌+◌, refl, sym, ◌∙◌, subst, false, ◌++◌, arith}
 use Rattle.judging.specs.Judging.{rows_of}
 use Rattle.states.specs.Machinery.Rows.{prints_at}
 use Rattle.states.proofs.Parts.{front_kept}

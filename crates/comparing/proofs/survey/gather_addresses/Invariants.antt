@@ -1,8 +1,6 @@
 -- What was found up to the address at hand is in the workspace, and the rest of the way leads to the first values of column 7: that is the
 -- invariant.
-use Prim.Native.Nat.{◌+◌, ◌-◌, ◌^◌, ◌≤◌}
-use mathlib.Core.Path.{◌≡◌}
-use lib.ListN.{length, take}
+use Rattle.std.proofs.Common.{◌+◌, ◌-◌, ◌^◌, ◌≤◌, ◌≡◌, length, take}
 use Rattle.judging.specs.Judging.{rows_of}
 use Rattle.states.specs.Machinery.Rows.{prints_at}
 use Rattle.comparing.proofs.survey.AddressesUpto.{AddressesUpto}

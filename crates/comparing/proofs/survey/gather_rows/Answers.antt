@@ -1,9 +1,4 @@
-use Prim.Native.Nat.{ℕ, ◌+◌, ◌-◌, ◌<◌}
-use mathlib.Core.Path.{◌≡◌, refl, sym, ap, ◌∙◌}
-use mathlib.Core.Bool.{Bool}
-use mathlib.Core.List.{◌++◌, map}
-use native.Mathlib.Omega.{arith}
-use borrow.Author.Tests.{ne_eqb}
+use Rattle.std.proofs.Common.{ℕ, ◌+◌, ◌-◌, ◌<◌, ◌≡◌, refl, sym, ap, ◌∙◌, Bool, ◌++◌, map, arith, ne_eqb}
 use Rattle.stored.specs.Choice.{pick}
 use Rattle.matching.specs.Machinery.Codes.{codes_of}
 use Rattle.judging.specs.Requests.{absent, text}

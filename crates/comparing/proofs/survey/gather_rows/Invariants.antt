@@ -1,8 +1,5 @@
 -- The footprints of the rows before the one at hand were added: that is the invariant. A row's footprint is that of its string, which has the row.
-use Prim.Native.Nat.{ℕ, ◌+◌, ◌-◌, ◌≤◌}
-use mathlib.Core.Path.{◌≡◌}
-use mathlib.Core.List.{List, map}
-use lib.ListN.{length, take}
+use Rattle.std.proofs.Common.{ℕ, ◌+◌, ◌-◌, ◌≤◌, ◌≡◌, List, map, length, take}
 use Rattle.judging.specs.Judging.{rows_of}
 use Rattle.states.specs.Machinery.Rows.{prints_at}
 use Rattle.comparing.specs.Machinery.Adding.{adding_rows}

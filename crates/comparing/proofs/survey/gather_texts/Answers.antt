@@ -1,8 +1,5 @@
 -- Three ways, by the column and by whether it has a value; each leaves the footprints of the first values.
-use Prim.Native.Nat.{◌+◌}
-use mathlib.Core.Path.{sym, ◌∙◌}
-use mathlib.Core.List.{◌++◌}
-use native.Mathlib.Omega.{arith}
+use Rattle.std.proofs.Common.{◌+◌, sym, ◌∙◌, ◌++◌, arith}
 use Rattle.matching.specs.Machinery.Codes.{codes_of}
 use Rattle.judging.specs.Judging.{rows_of}
 use Rattle.states.specs.Machinery.Rows.{prints_at}

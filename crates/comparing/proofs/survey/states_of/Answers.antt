@@ -1,9 +1,5 @@
 -- The codes of the first table's values and those of the second's lie one behind the other in the workspace, and the search goes by them.
-use Prim.Native.Nat.{ℕ, ◌≤◌}
-use mathlib.Core.Path.{◌≡◌, ◌∙◌, subst}
-use mathlib.Core.List.{List}
-use native.Mathlib.Omega.{arith}
-use lib.ListN.{length}
+use Rattle.std.proofs.Common.{ℕ, ◌≤◌, ◌≡◌, ◌∙◌, subst, List, arith, length}
 use Rattle.judging.specs.Judging.{rows_of}
 use Rattle.states.specs.Machinery.Search.{FoundAll}
 use Rattle.states.proofs.TakenRows.{codes-stay, searchable-laid}

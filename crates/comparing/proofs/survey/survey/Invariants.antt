@@ -1,6 +1,5 @@
 -- The columns below the one at hand were surveyed: that is the invariant.
-use mathlib.Core.Path.{◌≡◌}
-use lib.ListN.{length}
+use Rattle.std.proofs.Common.{◌≡◌, length}
 use Rattle.judging.specs.Judging.{rows_of}
 use Rattle.comparing.proofs.survey.ColumnsSurveyed.{ColumnsUpto}
 use Rattle.comparing.proofs.survey.survey.Given as goal

@@ -1,8 +1,5 @@
 -- Column 7 goes by edges; another column by its states, if there are few of them.
-use Prim.Native.Nat.{ℕ, ◌<◌}
-use mathlib.Core.Path.{◌≡◌, sym, ◌∙◌, subst}
-use mathlib.Core.Bool.{true}
-use native.Mathlib.Omega.{arith}
+use Rattle.std.proofs.Common.{ℕ, ◌<◌, ◌≡◌, sym, ◌∙◌, subst, true, arith}
 use Rattle.judging.specs.Judging.{rows_of}
 use Rattle.columns.specs.Machinery.Plan.{HasPlans}
 use Rattle.columns.proofs.PlansLaid.{texts-fit, addresses-fit}
