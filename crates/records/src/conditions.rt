@@ -4,7 +4,7 @@ ghost use Rattle.json_text.specs.Machinery.Marks.{tokens_at};
 ghost use Rattle.json_text.specs.Machinery.Pieces.{content_of};
 ghost use Rattle.records.specs.Wishes as Wishes;
 ghost use Rattle.records.specs.Machinery.Streams.{conditions_from};
-ghost use Rattle.records.specs.Machinery.Cursors.{spot_of, name_turn, text_turn, list_turn, list_end_turn, object_turn, object_end_turn, spot_turn, said_left};
+ghost use Rattle.records.specs.Machinery.Cursors.{spot_of, spot_turn, said_left};
 
 use crate::wishes::{Wish, key_at, operator_at, string_kind};
 use json_text::events::Event;
@@ -46,78 +46,38 @@ pub struct Said {
     pub spot: Spot,
 }
 
-fn on_name(spot: Spot, text: &[u8], from: usize) -> Option<Turned>
-    ensures { result ≡ name_turn spot (content_of (drop from text.now)) }
-{
-    match spot {
-        Spot::Operators => Some(Turned::On(Spot::Operator(operator_at(operator_name(text, from))))),
-        Spot::Keys(operator) => Some(Turned::On(Spot::Key(operator, key_at(key_name(text, from))))),
-        _ => None,
-    }
-}
-
-fn on_text(spot: Spot) -> Option<Turned>
-    ensures { result ≡ text_turn spot }
-{
-    match spot {
-        Spot::Key(operator, key) => Some(Turned::Waits(operator, key)),
-        Spot::Value(operator) => Some(Turned::Text(operator, Spot::Keys(operator))),
-        Spot::EmptyList(operator, _) => Some(Turned::Text(operator, Spot::FilledList(operator))),
-        Spot::FilledList(operator) => Some(Turned::Text(operator, Spot::FilledList(operator))),
-        _ => None,
-    }
-}
-
-fn on_list(spot: Spot, at: usize) -> Option<Turned>
-    ensures { result ≡ list_turn spot at }
-{
-    match spot {
-        Spot::Key(operator, key) => Some(Turned::Waits(operator, key)),
-        Spot::Value(operator) => Some(Turned::On(Spot::EmptyList(operator, at))),
-        _ => None,
-    }
-}
-
-fn on_list_end(spot: Spot) -> Option<Turned>
-    ensures { result ≡ list_end_turn spot }
-{
-    match spot {
-        Spot::EmptyList(operator, place) => Some(Turned::Empty(place, Spot::Keys(operator))),
-        Spot::FilledList(operator) => Some(Turned::On(Spot::Keys(operator))),
-        _ => None,
-    }
-}
-
-fn on_object(spot: Spot) -> Option<Turned>
-    ensures { result ≡ object_turn spot }
-{
-    match spot {
-        Spot::Before => Some(Turned::On(Spot::Operators)),
-        Spot::Operator(operator) => Some(Turned::On(Spot::Keys(operator))),
-        _ => None,
-    }
-}
-
-fn on_object_end(spot: Spot) -> Option<Turned>
-    ensures { result ≡ object_end_turn spot }
-{
-    match spot {
-        Spot::Keys(_) => Some(Turned::On(Spot::Operators)),
-        _ => None,
-    }
-}
-
 fn spot_turn(spot: Spot, event: Event, text: &[u8], at: usize, from: usize) -> Option<Turned>
     ensures { result ≡ spot_turn spot event at (content_of (drop from text.now)) }
 {
-    match event {
-        Event::Name => on_name(spot, text, from),
-        Event::Text => on_text(spot),
-        Event::Other => None,
-        Event::OpenList => on_list(spot, at),
-        Event::CloseList => on_list_end(spot),
-        Event::OpenObject => on_object(spot),
-        Event::CloseObject => on_object_end(spot),
+    match (spot, event) {
+        (Spot::Before, Event::OpenObject) => Some(Turned::On(Spot::Operators)),
+        (Spot::Operators, Event::Name) => {
+            let operator = operator_at(operator_name(text, from));
+            Some(Turned::On(Spot::Operator(operator)))
+        }
+        (Spot::Operator(operator), Event::OpenObject) => Some(Turned::On(Spot::Keys(operator))),
+        (Spot::Keys(operator), Event::Name) => {
+            let key = key_at(key_name(text, from));
+            Some(Turned::On(Spot::Key(operator, key)))
+        }
+        (Spot::Keys(_), Event::CloseObject) => Some(Turned::On(Spot::Operators)),
+        (Spot::Key(operator, key), Event::Text | Event::OpenList) => {
+            Some(Turned::Waits(operator, key))
+        }
+        (Spot::Value(operator), Event::Text) => {
+            Some(Turned::Text(operator, Spot::Keys(operator)))
+        }
+        (Spot::Value(operator), Event::OpenList) => {
+            Some(Turned::On(Spot::EmptyList(operator, at)))
+        }
+        (Spot::EmptyList(operator, _) | Spot::FilledList(operator), Event::Text) => {
+            Some(Turned::Text(operator, Spot::FilledList(operator)))
+        }
+        (Spot::EmptyList(operator, place), Event::CloseList) => {
+            Some(Turned::Empty(place, Spot::Keys(operator)))
+        }
+        (Spot::FilledList(operator), Event::CloseList) => Some(Turned::On(Spot::Keys(operator))),
+        _ => None,
     }
 }
 

@@ -168,35 +168,20 @@ fn parts(text: &[u8], row: Row, part: Part) -> Wished
 fn values(text: &[u8], here: Mark, hold: Hold, row: Row, part: Part) -> Wished
     ensures { values_from S.Text (part_left text.now row part) (tokens_at text.now here) (hold_of text.now hold) ≡ wished_left text.now result }
 {
-    match next_string(text, here, hold) {
-        Some(Strings::Listed(place, mark)) => Wished {
-            wish: Wish::Value,
-            place,
-            cursor: Cursor {
-                stage: Stage::Values(part, Hold::Filled),
-                here: mark,
-                row,
-            },
-        },
-        Some(Strings::Alone(place)) => Wished {
-            wish: Wish::Value,
-            place,
-            cursor: Cursor {
-                stage: Stage::Parts(part),
-                here,
-                row,
-            },
-        },
-        Some(Strings::Empty(place)) => Wished {
-            wish: Wish::Empty,
-            place,
-            cursor: Cursor {
-                stage: Stage::Parts(part),
-                here,
-                row,
-            },
-        },
-        None => parts(text, row, part),
+    let Some(strings) = next_string(text, here, hold) else {
+        return parts(text, row, part);
+    };
+    let behind = Stage::Parts(part);
+    let (wish, place, stage, here) = match strings {
+        Strings::Listed(place, on) => (Wish::Value, place, Stage::Values(part, Hold::Filled), on),
+        Strings::Alone(place) => (Wish::Value, place, behind, here),
+        Strings::Empty(place) => (Wish::Empty, place, behind, here),
+    };
+    let cursor = Cursor { stage, here, row };
+    Wished {
+        wish,
+        place,
+        cursor,
     }
 }
 

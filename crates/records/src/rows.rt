@@ -3,7 +3,7 @@ ghost use Rattle.std.specs.Prelude.{◌≡◌, length};
 ghost use Rattle.json_text.specs.Machinery.Marks.{tokens_at};
 ghost use Rattle.records.specs.Machinery.Streams.{count_from};
 ghost use Rattle.records.specs.Machinery.Streams.Among.{begin};
-ghost use Rattle.records.specs.Machinery.Rows.{AtMost, deeper, higher, object, among_turn, row_in, sighted, RowAhead};
+ghost use Rattle.records.specs.Machinery.Rows.{AtMost, among_turn, row_in, sighted, RowAhead};
 
 use json_text::events::Event;
 use json_text::tokens::{Mark, next_token};
@@ -30,52 +30,26 @@ pub struct Row {
     pub listed: bool,
 }
 
-fn deeper(among: Among) -> Among
-    requires { AtMost 18446744073709551614 among }
-    ensures { result ≡ deeper among }
-{
-    match among {
-        Among::Begin => Among::Between,
-        Among::Between => Among::Within(0),
-        Among::Within(depth) => Among::Within(depth + 1),
-    }
-}
-
-fn higher(among: Among) -> Option<Sight>
-    ensures { result ≡ higher among }
-{
-    match among {
-        Among::Begin | Among::Between => None,
-        Among::Within(depth) => {
-            if depth == 0 {
-                Some(Sight::On(Among::Between))
-            } else {
-                Some(Sight::On(Among::Within(depth - 1)))
-            }
-        }
-    }
-}
-
-fn object(among: Among) -> Sight
-    requires { AtMost 18446744073709551614 among }
-    ensures { result ≡ object among }
-{
-    match among {
-        Among::Begin => Sight::Statement(false),
-        Among::Between => Sight::Statement(true),
-        Among::Within(depth) => Sight::On(Among::Within(depth + 1)),
-    }
-}
-
 fn among_turn(among: Among, event: Event) -> Option<Sight>
     requires { AtMost 18446744073709551614 among }
     ensures { result ≡ among_turn among event }
 {
-    match event {
-        Event::Name | Event::Text | Event::Other => Some(Sight::On(among)),
-        Event::OpenList => Some(Sight::On(deeper(among))),
-        Event::OpenObject => Some(object(among)),
-        Event::CloseList | Event::CloseObject => higher(among),
+    match (among, event) {
+        (_, Event::Name | Event::Text | Event::Other) => Some(Sight::On(among)),
+        (Among::Begin, Event::OpenList) => Some(Sight::On(Among::Between)),
+        (Among::Begin, Event::OpenObject) => Some(Sight::Statement(false)),
+        (Among::Between, Event::OpenList) => Some(Sight::On(Among::Within(0))),
+        (Among::Between, Event::OpenObject) => Some(Sight::Statement(true)),
+        (Among::Within(depth), Event::OpenList | Event::OpenObject) => {
+            Some(Sight::On(Among::Within(depth + 1)))
+        }
+        (Among::Within(0), Event::CloseList | Event::CloseObject) => {
+            Some(Sight::On(Among::Between))
+        }
+        (Among::Within(depth), Event::CloseList | Event::CloseObject) => {
+            Some(Sight::On(Among::Within(depth - 1)))
+        }
+        (Among::Begin | Among::Between, Event::CloseList | Event::CloseObject) => None,
     }
 }
 

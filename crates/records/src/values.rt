@@ -4,7 +4,7 @@ ghost use Rattle.json_text.specs.Machinery.Marks.{tokens_at};
 ghost use Rattle.stored.specs.declared.items.Sort.TheVariants as S;
 ghost use Rattle.records.specs.Wishes as Wishes;
 ghost use Rattle.records.specs.Machinery.Streams.{values_from};
-ghost use Rattle.records.specs.Machinery.Cursors.{hold_of, heard_string, heard_end, hold_turn, strings_left};
+ghost use Rattle.records.specs.Machinery.Cursors.{hold_of, hold_turn, strings_left};
 
 use json_text::events::Event;
 use json_text::tokens::{Mark, next_token};
@@ -36,34 +36,17 @@ pub enum Strings {
     Empty(usize),
 }
 
-fn heard_string(hold: Hold) -> Heard
-    ensures { result ≡ heard_string hold }
-{
-    match hold {
-        Hold::Outside => Heard::Alone,
-        Hold::Fresh(_) => Heard::Listed,
-        Hold::Filled => Heard::Listed,
-    }
-}
-
-fn heard_end(hold: Hold) -> Option<Heard>
-    ensures { result ≡ heard_end hold }
-{
-    match hold {
-        Hold::Fresh(place) => Some(Heard::Empty(place)),
-        Hold::Outside | Hold::Filled => None,
-    }
-}
-
 fn hold_turn(hold: Hold, event: Event, at: usize) -> Option<Heard>
     ensures { result ≡ hold_turn hold event at }
 {
-    match event {
-        Event::Name | Event::OpenObject => Some(Heard::On(hold)),
-        Event::Text => Some(heard_string(hold)),
-        Event::OpenList => Some(Heard::On(Hold::Fresh(at))),
-        Event::CloseList => heard_end(hold),
-        Event::Other | Event::CloseObject => None,
+    match (event, hold) {
+        (Event::Name | Event::OpenObject, _) => Some(Heard::On(hold)),
+        (Event::OpenList, _) => Some(Heard::On(Hold::Fresh(at))),
+        (Event::Text, Hold::Outside) => Some(Heard::Alone),
+        (Event::Text, Hold::Fresh(_) | Hold::Filled) => Some(Heard::Listed),
+        (Event::CloseList, Hold::Fresh(place)) => Some(Heard::Empty(place)),
+        (Event::CloseList, Hold::Outside | Hold::Filled) => None,
+        (Event::Other | Event::CloseObject, _) => None,
     }
 }
 
