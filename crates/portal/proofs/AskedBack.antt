@@ -8,17 +8,14 @@ use native.Mathlib.Omega.{arith}
 use lib.ListN.{length, take, drop, get_or}
 use Rattle.stored.specs.Choice.{pick}
 use Rattle.stored.specs.Values.{in_range}
-use Rattle.judging.specs.Requests.{Value, absent, number, is_present, columns, column_of, key_value}
+use Rattle.judging.specs.Requests.{Value, absent, number, is_present, columns, column_of, key_value, Present}
 use Rattle.judging.specs.Judging.{rows_of, judgement}
-use Rattle.judging.specs.declared.request.Present.{Present}
 use Rattle.comparing.specs.Order.{Earlier}
 use Rattle.comparing.specs.Requests.{AdmitsOptional, AdmitsAddress, IsRequest}
 use Rattle.comparing.specs.Gaps.{AlikeFrom, IsGap}
 use Rattle.comparing.specs.Compared.{value_room, bytes_in, address_in, padded, shape_of, request_shown, Shown}
 use Rattle.comparing.specs.Means.{ShownMeans}
-use Rattle.comparing.specs.declared.answers.Shape.{Shape}
-use Rattle.comparing.specs.declared.answers.Showing.{Showing}
-use Rattle.comparing.specs.declared.answers.Showing.TheVariants as S
+use Rattle.comparing.specs.Answers.{Shape, Showing, Showing as S}
 use Rattle.comparing.proofs.Promises.{shown-means, one-answer-shown}
 use Rattle.comparing.proofs.Eight.{of-eight}
 use Rattle.comparing.proofs.show.ShownRequest.{needed-bytes, key-bytes, address-number}

@@ -10,15 +10,11 @@ use lib.Dec.{ltb}
 use lib.ListN.{length, replicate, length-replicate}
 use borrow.Author.Tests.{ltb-true, ltb-false}
 use Rattle.stored.specs.Choice.{pick, some}
-use Rattle.stored.specs.Reading.{reading}
-use Rattle.stored.specs.declared.reader.ReadAnswer.{ReadAnswer}
-use Rattle.stored.specs.declared.reader.ReadAnswer.TheVariants as A
+use Rattle.stored.specs.Reading.{reading, ReadAnswer, ReadAnswer as A}
 use Rattle.stored.proofs.Choosing.{never}
 use Rattle.judging.specs.Requests.{Value, columns, is_faulty, first_fault}
 use Rattle.judging.specs.Meaning.{applies, is_allowed, some_denies}
-use Rattle.judging.specs.Judging.{rows_of, judgement}
-use Rattle.judging.specs.declared.judge.Judgement.{Judgement}
-use Rattle.judging.specs.declared.judge.Judgement.TheVariants as J
+use Rattle.judging.specs.Judging.{rows_of, judgement, Judgement, Judgement as J}
 use Rattle.judging.proofs.Promises.{refused-first, refused-request, allowed-exactly, denied-exactly, not-mentioned-exactly}
 use Rattle.comparing.specs.Requests.{IsRequest}
 use Rattle.comparing.specs.Compared.{value_bytes}

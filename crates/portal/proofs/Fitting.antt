@@ -7,16 +7,12 @@ use native.Mathlib.Omega.{arith}
 use lib.Dec.{ltb}
 use borrow.Author.Tests.{ltb-true}
 use Rattle.stored.specs.Choice.{pick}
-use Rattle.stored.specs.Reading.{reading}
-use Rattle.stored.specs.declared.reader.ReadAnswer.{ReadAnswer}
-use Rattle.stored.specs.declared.reader.ReadAnswer.TheVariants as A
+use Rattle.stored.specs.Reading.{reading, ReadAnswer, ReadAnswer as A}
 use Rattle.stored.proofs.Promises.{refused-where}
 use Rattle.stored.proofs.Choosing.{pick-cases}
 use Rattle.judging.specs.Requests.{Value, columns, first_fault}
 use Rattle.judging.specs.Meaning.{some_allows, some_denies}
-use Rattle.judging.specs.Judging.{rows_of, verdict, judgement}
-use Rattle.judging.specs.declared.judge.Judgement.{Judgement}
-use Rattle.judging.specs.declared.judge.Judgement.TheVariants as J
+use Rattle.judging.specs.Judging.{rows_of, verdict, judgement, Judgement, Judgement as J}
 use Rattle.judging.proofs.Refusing.{table-refused, table-reads}
 use Rattle.portal.specs.Codes.{refusal_code, place_in, number_in, table_in}
 

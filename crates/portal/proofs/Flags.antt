@@ -4,7 +4,7 @@ use mathlib.Core.Path.{◌≡◌, ap}
 use mathlib.Core.Bool.{Bool, true, false}
 use native.Mathlib.Omega.{arith}
 use lib.Dec.{eqb}
-use Rattle.judging.specs.declared.request.Present.{Present}
+use Rattle.judging.specs.Requests.{Present}
 use Rattle.portal.specs.Codes.{is_set, present_of, flag_of, flags_of}
 
 -- a flag is at most itself

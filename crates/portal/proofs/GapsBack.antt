@@ -10,11 +10,7 @@ use Rattle.judging.specs.Judging.{rows_of}
 use Rattle.comparing.specs.Compared.{request_shown, keeps, Compared, Shown}
 use Rattle.comparing.specs.Outcomes.{Outcome, short, first_table, second_table, wide, crowded, many_kinds, answered, GapAnswer, behind, shows}
 use Rattle.comparing.specs.Means.{ShownMeans}
-use Rattle.comparing.specs.declared.answers.Counting.{Counting}
-use Rattle.comparing.specs.declared.answers.Counting.TheVariants as C
-use Rattle.comparing.specs.declared.answers.Shape.{Shape}
-use Rattle.comparing.specs.declared.answers.Showing.{Showing}
-use Rattle.comparing.specs.declared.answers.Showing.TheVariants as S
+use Rattle.comparing.specs.Answers.{Counting, Counting as C, Shape, Showing, Showing as S}
 use Rattle.comparing.proofs.Promises.{few-gaps, shown-means, refused-exactly, refused-exactly-shown}
 use Rattle.comparing.proofs.Requests.{address-said}
 use Rattle.portal.specs.Codes.{present_of, flags_of, shape_code, place_in, number_in, table_in}

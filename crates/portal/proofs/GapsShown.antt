@@ -12,9 +12,7 @@ use Rattle.judging.specs.Judging.{rows_of}
 use Rattle.comparing.specs.Gaps.{IsGap}
 use Rattle.comparing.specs.Compared.{value_bytes, Compared, shape_of, laid, Shown}
 use Rattle.comparing.specs.Outcomes.{short, first_table, second_table, wide, crowded, many_kinds, answered, CountOutcome, shows}
-use Rattle.comparing.specs.declared.answers.Counting.TheVariants as C
-use Rattle.comparing.specs.declared.answers.Showing.{Showing}
-use Rattle.comparing.specs.declared.answers.Showing.TheVariants as S
+use Rattle.comparing.specs.Answers.{Counting as C, Showing, Showing as S}
 use Rattle.comparing.proofs.Promises.{refused-exactly, refused-exactly-shown, one-answer-shown}
 use Rattle.comparing.proofs.Unique.{gaps-unique}
 use Rattle.portal.specs.Codes.{shape_code, showing_code}

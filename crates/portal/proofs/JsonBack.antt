@@ -16,10 +16,8 @@ use Rattle.records.specs.Documents.{statements_of}
 use Rattle.records.specs.Wishes.{wishes}
 use Rattle.judging.specs.Requests.{columns, first_fault}
 use Rattle.judging.specs.Meaning.{is_allowed}
-use Rattle.policy.specs.Answers.{document_of, JsonAnswered}
+use Rattle.policy.specs.Answers.{document_of, JsonAnswered, JsonAnswer, JsonAnswer as R}
 use Rattle.policy.specs.Answers.JsonAnswered.{no_text, wrong_member, wrong_record, too_long, no_room, written}
-use Rattle.policy.specs.declared.reader.JsonAnswer.{JsonAnswer}
-use Rattle.policy.specs.declared.reader.JsonAnswer.TheVariants as R
 use Rattle.policy.proofs.Numbers.{member-number, record-number}
 use Rattle.policy.proofs.Promises.{json-exactly, json-means}
 use Rattle.portal.specs.Codes.{given_place, json_code}

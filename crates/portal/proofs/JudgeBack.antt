@@ -5,9 +5,7 @@ use mathlib.Core.List.{List}
 use mathlib.Core.Logic.{◌↔◌}
 use native.Mathlib.Omega.{arith}
 use Rattle.judging.specs.Requests.{Value}
-use Rattle.judging.specs.Judging.{judgement}
-use Rattle.judging.specs.declared.judge.Judgement.{Judgement}
-use Rattle.judging.specs.declared.judge.Judgement.TheVariants as J
+use Rattle.judging.specs.Judging.{judgement, Judgement, Judgement as J}
 use Rattle.portal.specs.Codes.{judgement_code}
 use Rattle.portal.specs.Saying.{JudgeSays}
 use Rattle.portal.proofs.Fitting.{JudgementFits, judgement-fits, gives_back}

@@ -14,15 +14,12 @@ use Rattle.stored.specs.Choice.{some}
 use Rattle.stored.specs.Values.{in_range}
 use Rattle.judging.specs.Requests.{Value, columns, first_fault, request_of}
 use Rattle.judging.specs.Meaning.{applies, some_denies, is_allowed}
-use Rattle.judging.specs.Judging.{rows_of, judgement}
-use Rattle.judging.specs.declared.judge.Judgement.TheVariants as J
+use Rattle.judging.specs.Judging.{rows_of, judgement, Judgement as J}
 use Rattle.comparing.specs.Order.{Earlier}
 use Rattle.comparing.specs.Gaps.{AlikeFrom, IsGap}
 use Rattle.comparing.specs.Compared.{value_bytes, value_room, padded, shape_of, Shown}
 use Rattle.comparing.specs.Outcomes.{IsTable}
-use Rattle.comparing.specs.declared.answers.Shape.{Shape}
-use Rattle.comparing.specs.declared.answers.Showing.{Showing}
-use Rattle.comparing.specs.declared.answers.Showing.TheVariants as S
+use Rattle.comparing.specs.Answers.{Shape, Showing, Showing as S}
 use Rattle.comparing.proofs.Promises.{one_answer, one-answer-shown}
 use Rattle.records.specs.Documents.{statements_of}
 use Rattle.policy.specs.Answers.{document_of}

@@ -1,10 +1,8 @@
 -- What the entry points for comparing and for policies answer. Those for comparing bring their own workspace of 8,192 words.
 use Rattle.std.specs.Prelude.{ℕ, ◌≡◌, List}
 use Rattle.comparing.specs.Compared.{Compared, Shown}
-use Rattle.comparing.specs.declared.answers.Counting.{Counting}
-use Rattle.comparing.specs.declared.answers.Showing.{Showing}
-use Rattle.policy.specs.Answers.{JsonAnswered}
-use Rattle.policy.specs.declared.reader.JsonAnswer.{JsonAnswer}
+use Rattle.comparing.specs.Answers.{Counting, Showing}
+use Rattle.policy.specs.Answers.{JsonAnswered, JsonAnswer}
 use Rattle.portal.specs.Codes.{counting_code, showing_code, json_code}
 
 -- the comparison's answer, coded

@@ -2,16 +2,10 @@
 -- bit 63. A policy's refusal is number * 2 ^ 56 + place.
 use Rattle.std.specs.Prelude.{ℕ, ◌+◌, ◌*◌, ◌/◌, ◌%◌, ◌^◌, Bool, true, false, eqb, ltb}
 use Rattle.stored.specs.Choice.{pick}
-use Rattle.judging.specs.declared.request.Present.{Present}
-use Rattle.judging.specs.declared.judge.Judgement.{Judgement}
-use Rattle.judging.specs.declared.judge.Judgement.TheVariants as J
-use Rattle.comparing.specs.declared.answers.Counting.{Counting}
-use Rattle.comparing.specs.declared.answers.Counting.TheVariants as C
-use Rattle.comparing.specs.declared.answers.Shape.{Shape}
-use Rattle.comparing.specs.declared.answers.Showing.{Showing}
-use Rattle.comparing.specs.declared.answers.Showing.TheVariants as S
-use Rattle.policy.specs.declared.reader.JsonAnswer.{JsonAnswer}
-use Rattle.policy.specs.declared.reader.JsonAnswer.TheVariants as R
+use Rattle.judging.specs.Requests.{Present}
+use Rattle.judging.specs.Judging.{Judgement, Judgement as J}
+use Rattle.comparing.specs.Answers.{Counting, Counting as C, Shape, Showing, Showing as S}
+use Rattle.policy.specs.Answers.{JsonAnswer, JsonAnswer as R}
 
 -- bit i of a number
 abbrev pub is_set : ℕ → ℕ → Bool

@@ -2,14 +2,10 @@
 -- `place_in` read a refusal off it.
 use Rattle.std.specs.Prelude.{ℕ, ◌/◌, ◌%◌, ◌^◌, ◌≤◌, ◌<◌, ◌≡◌, List}
 use Rattle.judging.specs.Requests.{Value}
-use Rattle.judging.specs.Judging.{judgement}
-use Rattle.judging.specs.declared.judge.Judgement.TheVariants as J
+use Rattle.judging.specs.Judging.{judgement, Judgement as J}
 use Rattle.comparing.specs.Compared.{Compared, Shown}
-use Rattle.comparing.specs.declared.answers.Counting.TheVariants as C
-use Rattle.comparing.specs.declared.answers.Shape.{Shape}
-use Rattle.comparing.specs.declared.answers.Showing.TheVariants as S
-use Rattle.policy.specs.Answers.{JsonAnswered}
-use Rattle.policy.specs.declared.reader.JsonAnswer.TheVariants as R
+use Rattle.comparing.specs.Answers.{Counting as C, Shape, Showing as S}
+use Rattle.policy.specs.Answers.{JsonAnswered, JsonAnswer as R}
 use Rattle.portal.specs.Codes.{present_of, place_in, number_in, table_in, given_place}
 
 -- what r says of a table and a request

@@ -3,17 +3,22 @@
 
 #![tactic(auto)]
 
-ghost use Rattle.std.specs.Prelude.{◌≡◌, ◌<◌};
+ghost use Rattle.std.specs.Prelude.{◌≡◌, ◌<◌, is_some};
+ghost use Rattle.refusals.specs.Numbers.{number_of};
+ghost use Rattle.stored.specs.Choice.{pick};
 ghost use Rattle.judging.specs.Requests.{request_of};
-ghost use Rattle.judging.specs.Judging.{judgement};
+ghost use Rattle.judging.specs.Judging.{judgement, as_judgement};
+ghost use Rattle.comparing.specs.Answers.{table_of, as_counting, as_shape, as_showing};
+ghost use Rattle.policy.specs.Answers.{as_json};
 ghost use Rattle.portal.specs.Codes.{is_set, present_of, flag_of, flags_of, refusal_code, judgement_code, counting_code, shape_code, showing_code, json_refusal_code, json_code};
 ghost use Rattle.portal.specs.Answers.{Counts, Shows, ReadsJson};
 
-use comparing::answers::{Counting, Shape, Showing};
+use comparing::answers::{Refused, Shape, Side};
 use comparing::compare::{gap, gap_count};
-use judging::judge::{Judgement, judge};
-use judging::request::Present;
-use policy::reader::{JsonAnswer, read_json};
+use judging::judge::{Verdict, judge};
+use judging::request::Request;
+use policy::reader::read_json;
+use refusals::{Reason, Refusal};
 
 // The words of the workspace that a comparison brings.
 const WORKSPACE: usize = 8192;
@@ -29,104 +34,96 @@ fn is_set(flags: u32, i: u32) -> bool
     (flags >> i) % 2 == 1
 }
 
-// Bit i says that the key with code i is there.
-fn present_of(flags: u32) -> Present
-    ensures { result ≡ present_of flags }
+// A key, which bit i of the flags says to be there or not.
+fn given<T: Copy>(flags: u32, i: u32, key: T) -> Option<T>
+    requires { i < 32 }
+    ensures { result ≡ pick (is_set flags i) (Some key) None }
 {
-    Present {
-        vpc: is_set(flags, 0),
-        prefix: is_set(flags, 1),
-        vpce: is_set(flags, 2),
-        referer: is_set(flags, 3),
-        address: is_set(flags, 4),
-    }
+    if is_set(flags, i) { Some(key) } else { None }
 }
 
-fn flag_of(here: bool, flag: u64) -> u64
-    ensures { result ≡ flag_of here flag }
+// The flag of a key that is there.
+fn flag_of<T: Copy>(key: Option<T>, flag: u64) -> u64
+    ensures { result ≡ flag_of (is_some key) flag }
 {
-    if here {
-        return flag;
-    }
-    0
+    if key.is_some() { flag } else { 0 }
 }
 
-// The keys that are there, a bit each.
-fn flags_of(present: Present) -> u64
-    ensures { result ≡ flags_of present }
+// The keys that a shown gap has, a bit each.
+fn flags_of(shape: Shape) -> u64
+    ensures { result ≡ flags_of (as_shape shape).present }
 {
-    flag_of(present.vpc, 1)
-        + flag_of(present.prefix, 2)
-        + flag_of(present.vpce, 4)
-        + flag_of(present.referer, 8)
-        + flag_of(present.address, 16)
+    flag_of(shape.vpc, 1)
+        + flag_of(shape.prefix, 2)
+        + flag_of(shape.vpce, 4)
+        + flag_of(shape.referer, 8)
+        + flag_of(shape.address, 16)
 }
 
 // A refusal as a number.
-fn refusal_code(number: u8, table: u8, place: usize) -> u64
-    ensures { result ≡ refusal_code number table place }
+fn refusal_code(reason: Reason, table: Side, place: usize) -> u64
+    ensures { result ≡ refusal_code (number_of reason) (table_of table) place }
 {
-    (table as u64) * 0x1000000000000 + (number as u64) * 0x100000000 + (place as u64) % 0x100000000
+    u64::from(u8::from(table)) * 0x1000000000000
+        + u64::from(u8::from(reason)) * 0x100000000
+        + (place as u64) % 0x100000000
 }
 
-fn judgement_code(answer: Judgement) -> u64
-    ensures { result ≡ judgement_code answer }
+fn judgement_code(answer: Result<Verdict, Refusal>) -> u64
+    ensures { result ≡ judgement_code (as_judgement answer) }
 {
     match answer {
-        Judgement::NotMentioned => 0,
-        Judgement::Allowed => 1,
-        Judgement::DeniedByRule => 2,
-        Judgement::Refused(number, place) => refusal_code(number, 0, place),
+        Ok(Verdict::NotMentioned) => 0,
+        Ok(Verdict::Allowed) => 1,
+        Ok(Verdict::DeniedByRule) => 2,
+        Err(refusal) => refusal_code(refusal.reason, Side::Comparison, refusal.place),
     }
 }
 
-fn counting_code(answer: Counting) -> u64
-    ensures { result ≡ counting_code answer }
+fn counting_code(answer: Result<u64, Refused>) -> u64
+    ensures { result ≡ counting_code (as_counting answer) }
 {
     match answer {
-        Counting::Gaps(n) => n,
-        Counting::Refused(number, table, place) => refusal_code(number, table, place),
+        Ok(gaps) => gaps,
+        Err(refused) => refusal_code(refused.reason, refused.table, refused.place),
     }
 }
 
 fn shape_code(shape: Shape) -> u64
-    ensures { result ≡ shape_code shape }
+    ensures { result ≡ shape_code (as_shape shape) }
 {
-    let present = shape.present;
-    0x8000000000000000 + flags_of(present) * 0x100000000 + (shape.address as u64)
+    let address = u64::from(shape.address.unwrap_or(0));
+    0x8000000000000000 + flags_of(shape) * 0x100000000 + address
 }
 
-fn showing_code(answer: Showing) -> u64
-    ensures { result ≡ showing_code answer }
+fn showing_code(answer: Result<Shape, Refused>) -> u64
+    ensures { result ≡ showing_code (as_showing answer) }
 {
     match answer {
-        Showing::Shown(shape) => shape_code(shape),
-        Showing::Refused(number, table, place) => refusal_code(number, table, place),
+        Ok(shape) => shape_code(shape),
+        Err(refused) => refusal_code(refused.reason, refused.table, refused.place),
     }
 }
 
 // A refusal of a policy as a number. A place that has no room is given as the last that has.
-fn json_refusal_code(number: u8, place: usize) -> u64
-    ensures { result ≡ json_refusal_code number place }
+fn json_refusal_code(refusal: Refusal) -> u64
+    ensures { result ≡ json_refusal_code (number_of refusal.reason) refusal.place }
 {
-    let at = place as u64;
-    if at < MOST_PLACE {
-        return (number as u64) * 0x100000000000000 + at;
-    }
-    (number as u64) * 0x100000000000000 + MOST_PLACE
+    let place = (refusal.place as u64).min(MOST_PLACE);
+    u64::from(u8::from(refusal.reason)) * 0x100000000000000 + place
 }
 
-fn json_code(answer: JsonAnswer) -> u64
-    ensures { result ≡ json_code answer }
+fn json_code(answer: Result<usize, Refusal>) -> u64
+    ensures { result ≡ json_code (as_json answer) }
 {
     match answer {
-        JsonAnswer::Written(size) => size as u64,
-        JsonAnswer::Refused(number, place) => json_refusal_code(number, place),
+        Ok(size) => size as u64,
+        Err(refusal) => json_refusal_code(refusal),
     }
 }
 
-// May this request pass? Bit i of `present` says that the key with code i is there; higher bits, and the bytes or the number of an absent
-// key, are not looked at.
+/// May this request pass? Bit i of `present` says that the key with code i is there; higher bits, and the bytes or the number of an absent
+/// key, are not looked at.
 pub fn stamenhum_judge(
     table: &[u8],
     principal: &[u8],
@@ -141,21 +138,20 @@ pub fn stamenhum_judge(
 ) -> u64
     ensures { result ≡ judgement_code (judgement table.now (request_of principal.now action.now resource.now (present_of present) vpc.now prefix.now vpce.now referer.now address)) }
 {
-    judgement_code(judge(
-        table,
+    let request = Request {
         principal,
         action,
         resource,
-        present_of(present),
-        vpc,
-        prefix,
-        vpce,
-        referer,
-        address,
-    ))
+        vpc: given(present, 0, vpc),
+        prefix: given(present, 1, prefix),
+        vpce: given(present, 2, vpce),
+        referer: given(present, 3, referer),
+        address: given(present, 4, address),
+    };
+    judgement_code(judge(table, request))
 }
 
-// How many kinds of request does the first table allow and the second not?
+/// How many kinds of request does the first table allow and the second not?
 pub fn stamenhum_gaps(first: &[u8], second: &[u8]) -> u64
     ensures { Counts first.now second.now result }
 {
@@ -163,7 +159,7 @@ pub fn stamenhum_gaps(first: &[u8], second: &[u8]) -> u64
     counting_code(gap_count(&mut workspace, first, second))
 }
 
-// What is gap k? Its values are laid down in the buffer as RULES 6.5 says.
+/// What is gap k? Its values are laid down in the buffer as RULES 6.5 says.
 pub fn stamenhum_gap(first: &[u8], second: &[u8], k: u64, values: &mut [u8]) -> u64
     ensures { Shows first.now second.now k values.old result values.new }
 {
@@ -171,8 +167,8 @@ pub fn stamenhum_gap(first: &[u8], second: &[u8], k: u64, values: &mut [u8]) -> 
     showing_code(gap(&mut workspace, first, second, k, values))
 }
 
-// Which table does this policy in the public JSON form make? It is laid down from the first byte of the buffer on; a refusal leaves
-// the buffer as it was.
+/// Which table does this policy in the public JSON form make? It is laid down from the first byte of the buffer on; a refusal leaves
+/// the buffer as it was.
 pub fn stamenhum_read_json(json: &[u8], table: &mut [u8]) -> u64
     ensures { ReadsJson json.now table.old result table.new }
 {
