@@ -4,7 +4,7 @@ use mathlib.Core.Path.{fun_ext}
 use mathlib.Core.Bool.{and-false}
 use lib.ListN.{get_or-eq_default}
 use Rattle.matching.specs.Symbols.{fold_byte}
-use Rattle.matching.specs.Machinery.Rows.{positions, cell_step, cell_bit, row_bit, pack, mark_row, cell_row, first_row, step_row}
+use Rattle.matching.specs.Machinery.Rows.{positions, cell_step, cell_bit, nowhere, row_bit, pack, mark_row, cell_row, first_row, step_row}
 use Rattle.matching.proofs.Rows.{upto, upto-below, upto-past, row_same, row-mark, row-none, row_zero}
 
 -- the codes that are left, the row so far, the next position, and the neighbour's bits, new and old
@@ -75,6 +75,11 @@ sweep-row begins b codes row = sweep-all begins b codes (row_bit row)
 pub sweep-few : (begins : Bool) (b : ℕ) (codes row : List ℕ) → length codes ≤ positions → sweep begins b (row_bit row) codes (replicate 8 0) 0 false false ≡ cell_row begins b codes row
 sweep-few begins b codes row few =
     ap (λ (l : List ℕ). sweep begins b (row_bit row) l (replicate 8 0) 0 false false) (sym (take_all positions codes few)) ∙ sweep-row begins b codes row
+
+-- from no position it makes the row of the empty string
+pub sweep-first : (codes : List ℕ) → sweep true 0 nowhere (take positions codes) (replicate 8 0) 0 false false ≡ first_row codes
+unfolding first_row
+sweep-first codes = sweep-all true 0 codes nowhere
 
 -- the rows of the empty string and of one byte more
 pub first-cells : (codes : List ℕ) → cell_row true 0 codes (replicate 8 0) ≡ first_row codes

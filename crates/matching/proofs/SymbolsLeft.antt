@@ -69,9 +69,8 @@ pub left-done : (s : Symbols) → symbols_left s ≡ [] → (string : List ℕ) 
 left-done s e string = left-is s [] string e
 
 -- a star that is the last symbol takes any string
-pub last-star : (s more : Symbols) → symbols_left s ≡ 2 ∷ symbols_left more → symbols_left more ≡ [] → (string : List ℕ) → left_matches s string ≡ true
-last-star s more e last string =
-    left-is s (2 ∷ []) string (e ∙ ap (λ (l : List ℕ). 2 ∷ l) last) ∙ some-end-empty string
+pub last-star : (s : Symbols) → symbols_left s ≡ 2 ∷ [] → (string : List ℕ) → left_matches s string ≡ true
+last-star s e string = left-is s (2 ∷ []) string e ∙ some-end-empty string
 
 -- all symbols of a value match the strings that the value matches
 pub value-left : (s : Symbols) (reading : Reading) (value : List ℕ) → symbols_left s ≡ symbol_codes reading value

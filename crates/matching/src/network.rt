@@ -7,10 +7,7 @@ ghost use Rattle.matching.specs.Machinery.Ranges.{network_low, network_high};
 fn network_size(length: u8) -> u64
     ensures { result ≡ network_size length }
 {
-    if 32 <= length {
-        return 1;
-    }
-    1u64 << (32 - length)
+    1u64 << 32u8.saturating_sub(length)
 }
 
 // The lowest address of a network.
@@ -18,7 +15,7 @@ fn network_low(network: u32, length: u8) -> u32
     ensures { result ≡ network_low network length }
 {
     let size = network_size(length);
-    ((network as u64) / size * size) as u32
+    (u64::from(network) / size * size) as u32
 }
 
 // The highest address of a network.
@@ -27,17 +24,12 @@ fn network_high(network: u32, length: u8) -> u32
 {
     let size = network_size(length);
     let low = network_low(network, length);
-    ((low as u64) + (size - 1)) as u32
+    (u64::from(low) + (size - 1)) as u32
 }
 
-// Whether network and address agree in the first length bits.
+/// Whether network and address agree in the first length bits.
 pub fn in_network(address: u32, network: u32, length: u8) -> bool
     ensures { result ≡ agree network address length }
 {
-    let low = network_low(network, length);
-    let high = network_high(network, length);
-    if address < low {
-        return false;
-    }
-    address <= high
+    (network_low(network, length)..=network_high(network, length)).contains(&address)
 }

@@ -1,39 +1,27 @@
 // The state of a column: a row of eight words, a bit for each position.
 ghost use Rattle.std.specs.Prelude.{◌≡◌, ◌<◌};
-ghost use Rattle.matching.specs.Machinery.Rows.{positions, row_bit, mark_row, cell_step, first_row, cell_row};
+ghost use Rattle.matching.specs.Machinery.Rows.{positions, row_bit, mark_row, cell_step, first_row};
 
 use crate::codes::{BEHIND_ONE, BEHIND_STAR, START, takes_byte};
 
-// The number of positions of a row.
+/// The number of positions of a row.
 pub const POSITIONS: usize = 512;
 
-// Whether position p is in the state.
+/// Whether position p is in the state.
 pub fn has_position(row: [u64; 8], p: usize) -> bool
     ensures { result ≡ row_bit row p }
 {
-    if p < POSITIONS {
-        let i = p / 64;
-        let k = p % 64;
-        let word = row[i];
-        return (word >> k) % 2 == 1;
-    }
-    false
+    p < POSITIONS && (row[p / 64] >> (p % 64)) % 2 == 1
 }
 
-// The row with position p marked, or as it is.
+/// The row with position p marked, or as it is.
 pub fn mark(row: [u64; 8], p: usize, reached: bool) -> [u64; 8]
     requires { p < positions }
     ensures { result ≡ mark_row row p reached }
 {
-    if reached {
-        let i = p / 64;
-        let k = p % 64;
-        let mut marked = row;
-        let word = marked[i];
-        marked[i] = word | (1u64 << k);
-        return marked;
-    }
-    row
+    let mut marked = row;
+    mark_in(&mut marked, p, reached);
+    marked
 }
 
 // Marks position p in the row, or leaves the row as it is.
@@ -42,10 +30,7 @@ pub(crate) fn mark_in(row: &mut [u64; 8], p: usize, reached: bool)
     ensures { row.new ≡ mark_row row.old p reached }
 {
     if reached {
-        let i = p / 64;
-        let k = p % 64;
-        let word = row[i];
-        row[i] = word | (1u64 << k);
+        row[p / 64] |= 1u64 << (p % 64);
     }
 }
 
@@ -54,48 +39,24 @@ pub(crate) fn mark_in(row: &mut [u64; 8], p: usize, reached: bool)
 pub(crate) fn cell_step(begins: bool, b: u8, code: u64, new: bool, before: bool, here: bool) -> bool
     ensures { result ≡ cell_step begins b code new before here }
 {
-    if code == START {
-        return begins;
+    match code {
+        START => begins,
+        BEHIND_STAR => new || here,
+        BEHIND_ONE => before,
+        _ => before && takes_byte(code, b),
     }
-    if code == BEHIND_STAR {
-        if new {
-            return true;
-        }
-        return here;
-    }
-    if code == BEHIND_ONE {
-        return before;
-    }
-    if before {
-        return takes_byte(code, b);
-    }
-    false
 }
 
-// The row that a string reaches, from the codes of all positions and the row of the string without its last byte b.
-fn row_of_codes(codes: &[u64], begins: bool, b: u8, row: [u64; 8]) -> [u64; 8]
-    ensures { result ≡ cell_row begins b codes.now row }
-{
-    let mut next = [0u64; 8];
-    let mut new = false;
-    let mut before = false;
-    let mut p: usize = 0;
-    while p < POSITIONS && p < codes.len() {
-        let code = codes[p];
-        let here = has_position(row, p);
-        let reached = cell_step(begins, b, code, new, before, here);
-        let marked = mark(next, p, reached);
-        next = marked;
-        new = reached;
-        before = here;
-        p += 1;
-    }
-    next
-}
-
-// The row of the empty string.
+/// The row of the empty string.
 pub fn first_state(codes: &[u64]) -> [u64; 8]
     ensures { result ≡ first_row codes.now }
 {
-    row_of_codes(codes, true, 0, [0u64; 8])
+    let mut row = [0u64; 8];
+    let mut new = false;
+    let within = &codes[..POSITIONS.min(codes.len())];
+    for (p, code) in within.iter().enumerate() {
+        new = cell_step(true, 0, *code, new, false, false);
+        mark_in(&mut row, p, new);
+    }
+    row
 }

@@ -1,5 +1,5 @@
 // The symbols of a value, read one after the other. Nobody else looks at the bytes of a value.
-ghost use Rattle.std.specs.Prelude.{◌≡◌, length};
+ghost use Rattle.std.specs.Prelude.{◌≡◌, ◌==◌, [], ◌∷◌, MatchOption, length};
 ghost use Rattle.matching.specs.Symbols.{is_wild};
 ghost use Rattle.matching.specs.Machinery.Codes.{symbol_codes};
 ghost use Rattle.matching.specs.Machinery.SymbolsLeft.{symbols_left};
@@ -45,6 +45,30 @@ impl<'a> Symbols<'a> {
     {
         self.bytes.len()
     }
+
+    // None is left.
+    #[inline(always)]
+    pub(crate) fn is_empty(&self) -> bool
+        ensures { result ≡ (length (symbols_left self.now) == 0) }
+    {
+        self.len() == 0
+    }
+
+    // The code of the first symbol and the symbols behind it, if one is left.
+    #[inline(always)]
+    pub(crate) fn split_first(self) -> Option<(u64, Symbols<'a>)>
+        ensures { MatchOption result (symbols_left self.entry ≡ []) (λ found. symbols_left self.entry ≡ found.0 ∷ symbols_left found.1) }
+    {
+        let (first, others) = self.bytes.split_first()?;
+        let code = symbol_code(self.wild, self.fold, *first);
+        Some((
+            code,
+            Symbols {
+                bytes: others,
+                ..self
+            },
+        ))
+    }
 }
 
 impl<'a> Iterator for Symbols<'a> {
@@ -58,8 +82,8 @@ impl<'a> Iterator for Symbols<'a> {
 
     #[inline(always)]
     fn next(&mut self) -> Option<u64> {
-        let (first, others) = self.bytes.split_first()?;
-        self.bytes = others;
-        Some(symbol_code(self.wild, self.fold, *first))
+        let (code, behind) = self.split_first()?;
+        *self = behind;
+        Some(code)
     }
 }

@@ -1,11 +1,10 @@
 // One value against one string.
 ghost use Rattle.std.specs.Prelude.{◌≡◌, ◌<◌, ◌≤◌, ◌∷◌, length};
 ghost use Rattle.matching.specs.Matches.{value_matches};
-ghost use Rattle.matching.specs.Machinery.Codes.{star_code};
 ghost use Rattle.matching.specs.Machinery.SymbolsLeft.{symbols_left, left_matches};
 ghost use Rattle.matching.specs.Machinery.Rows.{positions, cell_row};
 
-use crate::codes::{BEHIND_STAR, START, takes_symbol};
+use crate::codes::{BEHIND_STAR, takes_symbol};
 use crate::reading::Reading;
 use crate::state::{cell_step, has_position, mark_in};
 use crate::symbols::{Symbols, symbols_of};
@@ -15,8 +14,9 @@ fn row_of_value(symbols: Symbols, begins: bool, b: u8, row: [u64; 8]) -> [u64; 8
     requires { length (symbols_left symbols) < positions }
     ensures { result ≡ cell_row begins b (1 ∷ symbols_left symbols.entry) row }
 {
+    // A position in front of all symbols is reached by the empty string alone.
     let mut before = has_position(row, 0);
-    let mut new = cell_step(begins, b, START, false, false, before);
+    let mut new = begins;
     let mut next = [0u64; 8];
     mark_in(&mut next, 0, new);
     let mut p: usize = 1;
@@ -31,7 +31,7 @@ fn row_of_value(symbols: Symbols, begins: bool, b: u8, row: [u64; 8]) -> [u64; 8
     next
 }
 
-// Whether the symbols match the whole string, by the row that the string reaches.
+// Whether the symbols match the whole string, by the row that the string reaches. Apart, so that what needs no row stays short.
 fn rows_match(symbols: Symbols, string: &[u8]) -> bool
     requires { length (symbols_left symbols) < positions }
     ensures { result ≡ left_matches symbols.entry string.now }
@@ -44,29 +44,18 @@ fn rows_match(symbols: Symbols, string: &[u8]) -> bool
     has_position(row, symbols.len())
 }
 
-// The same where the first symbol is a star, with the symbols behind it: a last star takes any string.
-fn star_matches(symbols: Symbols, behind: Symbols, string: &[u8]) -> bool
-    requires { (length (symbols_left symbols) < positions) × (symbols_left symbols ≡ star_code ∷ symbols_left behind) }
-    ensures { result ≡ left_matches symbols.entry string.now }
-{
-    behind.len() == 0 || rows_match(symbols, string)
-}
-
 // Whether the symbols match the whole string. Up to the first star each symbol takes one byte, so that the first byte that differs
 // decides.
 fn left_matches(symbols: Symbols, string: &[u8]) -> bool
     requires { length (symbols_left symbols) < positions }
     ensures { result ≡ left_matches symbols.entry string.now }
 {
-    let mut behind = symbols;
+    let mut left = symbols;
     let mut rest = string;
-    loop {
-        let here = behind;
-        let Some(code) = behind.next() else {
-            return rest.is_empty();
-        };
+    while let Some((code, behind)) = left.split_first() {
         if code == BEHIND_STAR {
-            return star_matches(here, behind, rest);
+            // A last star takes any string.
+            return behind.is_empty() || rows_match(left, rest);
         }
         let Some((b, others)) = rest.split_first() else {
             return false;
@@ -74,8 +63,10 @@ fn left_matches(symbols: Symbols, string: &[u8]) -> bool
         if !takes_symbol(code, *b) {
             return false;
         }
+        left = behind;
         rest = others;
     }
+    rest.is_empty()
 }
 
 // Whether the value, read as its column or operator reads it, matches the whole string.

@@ -4,19 +4,16 @@ ghost use Rattle.matching.specs.Machinery.Rows.{word_bit, pack_word};
 ghost use Rattle.matching.specs.Machinery.Words.{star_row, ahead_row, words_row, moved_up, base_bit, over_bit};
 
 use crate::codes::BEHIND_STAR;
-use crate::state::{POSITIONS, mark};
+use crate::state::{POSITIONS, mark_in};
 
-// The positions behind a star.
+/// The positions behind a star.
 pub fn stars_of(codes: &[u64]) -> [u64; 8]
     ensures { result ≡ star_row codes.now }
 {
     let mut row = [0u64; 8];
-    let mut p: usize = 0;
-    while p < POSITIONS && p < codes.len() {
-        let star = codes[p] == BEHIND_STAR;
-        let marked = mark(row, p, star);
-        row = marked;
-        p += 1;
+    let within = &codes[..POSITIONS.min(codes.len())];
+    for (p, code) in within.iter().enumerate() {
+        mark_in(&mut row, p, *code == BEHIND_STAR);
     }
     row
 }
@@ -28,19 +25,15 @@ fn moved_up(word: u64, before: u64) -> u64
     (word << 1) | (before >> 63)
 }
 
-// The positions behind those of a row.
+/// The positions behind those of a row.
 pub fn ahead_of(row: [u64; 8]) -> [u64; 8]
     ensures { result ≡ ahead_row row }
 {
     let mut ahead = [0u64; 8];
     let mut before: u64 = 0;
-    let mut i: usize = 0;
-    while i < 8 {
-        let word = row[i];
-        let moved = moved_up(word, before);
-        ahead[i] = moved;
-        before = word;
-        i += 1;
+    for (i, word) in row.iter().enumerate() {
+        ahead[i] = moved_up(*word, before);
+        before = *word;
     }
     ahead
 }
@@ -61,11 +54,11 @@ fn take_over(base: u64, stars: u64, before: u64) -> u64
 {
     let moved = moved_up(base, before);
     let seeds = moved & stars;
-    let sum = std::num::wrapping_add_u64(stars, seeds);
+    let sum = stars.wrapping_add(seeds);
     base | (((sum ^ stars) | seeds) & stars)
 }
 
-// The row of one byte more, by its first words: from the positions to which the byte leads and those behind a star.
+/// The row of one byte more, by its first words: from the positions to which the byte leads and those behind a star.
 pub fn step_words(taken: &[u64], stars: &[u64], row: [u64; 8], used: usize) -> [u64; 8]
     requires { (8 ≤ length taken.now) × (8 ≤ length stars.now) × (used ≤ 8) }
     ensures { result ≡ words_row used taken.now stars.now row }
@@ -73,15 +66,12 @@ pub fn step_words(taken: &[u64], stars: &[u64], row: [u64; 8], used: usize) -> [
     let mut next = [0u64; 8];
     let mut old_before: u64 = 0;
     let mut new_before: u64 = 0;
-    let mut i: usize = 0;
-    while i < used {
-        let old = row[i];
-        let base = base_word(taken[i], stars[i], old, old_before);
+    for i in 0..used {
+        let base = base_word(taken[i], stars[i], row[i], old_before);
         let new = take_over(base, stars[i], new_before);
         next[i] = new;
-        old_before = old;
+        old_before = row[i];
         new_before = new;
-        i += 1;
     }
     next
 }

@@ -13,8 +13,8 @@ overflow_add-result c =
     let high : network_high a.network a.length < 2 ^ 32 = high_fits a.network a.length c.ranges.network.fits in
     omega (arith, c.network_size-size.ensures, c.network_low-low.ensures)
 
-pub overflow_cast-result-2 : goal.overflow_cast-result-2
-overflow_cast-result-2 c =
+pub overflow_cast-result : goal.overflow_cast-result
+overflow_cast-result c =
     let a = c.args in
     let high : network_high a.network a.length < 2 ^ 32 = high_fits a.network a.length c.ranges.network.fits in
     omega (arith, c.network_size-size.ensures, c.network_low-low.ensures)

@@ -4,7 +4,7 @@ use Rattle.matching.specs.Machinery.SymbolsLeft.{symbols_left, left_matches}
 use Rattle.matching.proofs.value.left_matches.Given as goal
 
 abbrev pub invariant-loop-code : goal.invariant-loop-code
-invariant-loop-code l = (length (symbols_left l.behind) < 512) × (left_matches l.behind l.rest ≡ left_matches l.symbols l.string)
+invariant-loop-code l = (length (symbols_left l.left) < 512) × (left_matches l.left l.rest ≡ left_matches l.symbols l.string)
 
 abbrev pub decreases-loop-code : goal.decreases-loop-code
-decreases-loop-code l = length (symbols_left l.behind)
+decreases-loop-code l = length (symbols_left l.left)

@@ -10,8 +10,8 @@ loop-code-init c =
     let left = symbols_left a.symbols in
     rw c.into_iter-code-iterator.ensures.into_iter_gives (
       omega (arith, c.requires),
-      sweep-next a.begins a.b (row_bit a.row) (1 ∷ left) 1 left (replicate 8 0) 0 false false c.mark_in.new.row c.cell_step-new.result
-          c.has_position-before.result refl c.has_position-before.ensures c.cell_step-new.ensures c.mark_in.ensures
+      sweep-next a.begins a.b (row_bit a.row) (1 ∷ left) 1 left (replicate 8 0) 0 false false c.mark_in.new.row a.begins
+          c.has_position-before.result refl c.has_position-before.ensures refl c.mark_in.ensures
           ∙ sweep-few a.begins a.b (1 ∷ left) a.row (omega (arith, c.requires)),
     )
 

@@ -15,10 +15,10 @@ loop-i-preserved c =
     let l = c.loop-i in
     let a = c.args in
     let f = behind a.row in
-    let moved : c.moved_up-moved.result ≡ pack_word 64 (λ k. f (64 * l.i + k)) =
-    word-ahead a.row l.i l.before c.moved_up-moved.result l.invariant.2 c.moved_up-moved.ensures in (
+    let moved : c.moved_up.result ≡ pack_word 64 (λ k. f (64 * l.i + k)) =
+    word-ahead a.row l.i l.before c.moved_up.result l.invariant.2 c.moved_up.ensures in (
       omega arith,
-      ap (λ (m : List ℕ). set m l.i c.moved_up-moved.result) l.invariant.1
+      ap (λ (m : List ℕ). set m l.i c.moved_up.result) l.invariant.1
           ∙ ap (set (pack 8 (upto (64 * l.i) f)) l.i) moved
           ∙ lay-more 8 l.i f (omega arith),
       row-carry a.row l.i,

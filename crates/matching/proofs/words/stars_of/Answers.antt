@@ -1,34 +1,25 @@
-use Rattle.std.proofs.Common.{◌≤◌, length, refl, ◌∙◌, arith}
+use Rattle.std.proofs.Common.{ℕ, ◌<◌, eqb, ap, ◌∙◌, length-take, get_or-take, arith}
+use Rattle.matching.specs.Machinery.Codes.{star_code}
 use Rattle.matching.specs.Machinery.Words.{star_bit, star_row}
 use Rattle.matching.proofs.MarkedRows.{none-marked, mark-more, all-marked, star-outside}
 use Rattle.matching.proofs.words.stars_of.Goals as goal
 
 pub loop-p-init : goal.loop-p-init
-loop-p-init c =
-    let a = c.args in
-    (omega arith, none-marked (star_bit a.codes.now))
-
-pub loop-p-smaller : goal.loop-p-smaller
-loop-p-smaller c = omega arith
+loop-p-init c = none-marked (star_bit c.args.codes.now)
 
 pub loop-p-preserved : goal.loop-p-preserved
 loop-p-preserved c =
     let l = c.loop-p in
-    let a = c.args in
-    (omega arith, mark-more (star_bit a.codes.now) l.row c.mark-marked.result l.p _ (omega arith) l.invariant.1 refl c.mark-marked.ensures)
+    let codes = c.args.codes.now in
+    let size = length-take c.min.result codes in
+    let inside : l.p < c.min.result = omega arith in
+    mark-more (star_bit codes) l.row c.mark_in.new.row l.p _ (omega arith) l.invariant
+    (ap (λ (code : ℕ). eqb code star_code) (get_or-take c.min.result codes l.p 0 inside)) c.mark_in.ensures
 
-pub returns-else-p-codes : goal.returns-else-p-codes
+pub returns : goal.returns
 unfolding star_row
-returns-else-p-codes c =
+returns c =
     let l = c.loop-p in
-    let a = c.args in
-    let past : length a.codes.now ≤ l.p = c.if-p-codes.false in
-    l.invariant.1 ∙ all-marked (star_bit a.codes.now) l.p (λ q h g. star-outside a.codes.now q (omega arith))
-
-pub returns-after-loop-p : goal.returns-after-loop-p
-unfolding star_row
-returns-after-loop-p c =
-    let l = c.loop-p in
-    let a = c.args in
-    let past : 512 ≤ l.p = omega arith in
-    l.invariant.1 ∙ all-marked (star_bit a.codes.now) l.p (λ q h g. absurd (omega arith))
+    let codes = c.args.codes.now in
+    let size = length-take c.min.result codes in
+    l.invariant ∙ all-marked (star_bit codes) l.p (λ q h g. star-outside codes q (omega arith))

@@ -11,9 +11,6 @@ loop-i-init c =
     let a = c.args in
     (omega arith, none-marked (step_of a.taken.now a.stars.now a.row), refl, refl)
 
-pub loop-i-smaller : goal.loop-i-smaller
-loop-i-smaller c = omega arith
-
 pub loop-i-preserved : goal.loop-i-preserved
 loop-i-preserved c =
     let l = c.loop-i in
