@@ -3,6 +3,7 @@ pub mod Seeking
 pub mod Sighting
 pub mod Hearing
 pub mod Wishing
+pub mod Parts
 pub mod Addresses
 pub mod Means
 pub mod Streaming

@@ -7,7 +7,7 @@ ghost use Rattle.members.specs.Names.{index_of_row};
 ghost use Rattle.records.specs.Machinery.Walkers.{seek};
 ghost use Rattle.records.specs.Machinery.Rows.{AtMost, among_of};
 ghost use Rattle.records.specs.Machinery.Streams.{values_from, conditions_from, row_from, rows_from, statement_from, document_from};
-ghost use Rattle.records.specs.Machinery.Cursors.{hold_of, spot_of, last, behind_row, column_from, conditions_left, resource_left, action_left, principal_left, part_left, first_cursor, wishes_left, wished_left, next_wishes, Inside};
+ghost use Rattle.records.specs.Machinery.Cursors.{hold_of, spot_of, last, behind_row, column_from, conditions_left, part_left, first_cursor, wishes_left, wished_left, next_wishes, Inside};
 
 use crate::conditions::{Spot, next_condition};
 use crate::effects::effect_of;
@@ -127,42 +127,18 @@ fn column(text: &[u8], element: Member<RowName>, row: Row, part: Part) -> Wished
     }
 }
 
-fn resource(text: &[u8], row: Row) -> Wished
-    ensures { resource_left text.now row ≡ wished_left text.now result }
+// The next part of a statement that it has.
+fn parts(text: &[u8], row: Row, from: Part) -> Wished
+    ensures { part_left text.now row from ≡ wished_left text.now result }
 {
-    match seek_member(text, row.members, RowName::Resource) {
-        Some(element) => column(text, element, row, Part::Conditions),
-        None => conditions(text, row),
+    let mut part = from;
+    while let Some((like, behind)) = part.element() {
+        if let Some(element) = seek_member(text, row.members, like) {
+            return column(text, element, row, behind);
+        }
+        part = behind;
     }
-}
-
-fn action(text: &[u8], row: Row) -> Wished
-    ensures { action_left text.now row ≡ wished_left text.now result }
-{
-    match seek_member(text, row.members, RowName::Action) {
-        Some(element) => column(text, element, row, Part::Resource),
-        None => resource(text, row),
-    }
-}
-
-fn principal(text: &[u8], row: Row) -> Wished
-    ensures { principal_left text.now row ≡ wished_left text.now result }
-{
-    match seek_member(text, row.members, RowName::Principal) {
-        Some(element) => column(text, element, row, Part::Action),
-        None => action(text, row),
-    }
-}
-
-fn parts(text: &[u8], row: Row, part: Part) -> Wished
-    ensures { part_left text.now row part ≡ wished_left text.now result }
-{
-    match part {
-        Part::Principal => principal(text, row),
-        Part::Action => action(text, row),
-        Part::Resource => resource(text, row),
-        Part::Conditions => conditions(text, row),
-    }
+    conditions(text, row)
 }
 
 fn values(text: &[u8], here: Mark, hold: Hold, row: Row, part: Part) -> Wished

@@ -1,9 +1,13 @@
 // Where the reading of a document's wishes stands.
+ghost use Rattle.std.specs.Prelude.{◌≡◌};
+ghost use Rattle.records.specs.Machinery.Cursors.{element_of};
+
 use crate::conditions::Spot;
 use crate::rows::Row;
 use crate::values::Hold;
 use crate::wishes::Wish;
 use json_text::tokens::Mark;
+use members::names::RowName;
 
 /// What a statement has behind its effect.
 #[derive(Clone, Copy, Debug, PartialEq, Eq)]
@@ -12,6 +16,20 @@ pub enum Part {
     Action,
     Resource,
     Conditions,
+}
+
+impl Part {
+    /// The element that it is, with the part that comes behind it; the conditions are none.
+    pub(crate) fn element(self) -> Option<(RowName, Part)>
+        ensures { result ≡ element_of self }
+    {
+        match self {
+            Part::Principal => Some((RowName::Principal, Part::Action)),
+            Part::Action => Some((RowName::Action, Part::Resource)),
+            Part::Resource => Some((RowName::Resource, Part::Conditions)),
+            Part::Conditions => None,
+        }
+    }
 }
 
 #[derive(Clone, Copy, Debug, PartialEq, Eq)]

@@ -33,6 +33,8 @@ use Rattle.records.specs.declared.conditions.Turned.{Turned}
 use Rattle.records.specs.declared.conditions.Turned.TheVariants as Tu
 use Rattle.records.specs.declared.conditions.Said.{Said}
 use Rattle.records.specs.declared.rows.Row.{Row}
+use Rattle.members.specs.declared.names.RowName.{RowName}
+use Rattle.members.specs.declared.names.RowName.TheVariants as R
 use Rattle.records.specs.declared.stages.Part.{Part}
 use Rattle.records.specs.declared.stages.Part.TheVariants as P
 use Rattle.records.specs.declared.stages.Stage.{Stage}
@@ -218,6 +220,13 @@ part_left t row P.Principal = principal_left t row
 part_left t row P.Action = action_left t row
 part_left t row P.Resource = resource_left t row
 part_left t row P.Conditions = conditions_left t row
+
+-- the element that a part is, with the part behind it
+abbrev pub element_of : Part → Option (RowName × Part)
+element_of P.Principal = Some (R.Principal, P.Action)
+element_of P.Action = Some (R.Action, P.Resource)
+element_of P.Resource = Some (R.Resource, P.Conditions)
+element_of P.Conditions = None
 
 -- what comes from a stage on
 abbrev pub stage_left : List ℕ → Mark → Row → Stage → List Wish
