@@ -4,7 +4,7 @@ ghost use Rattle.std.specs.Prelude.{◌≤◌, ◌<◌};
 
 use crate::printed::{FILLING, print_answer};
 use cases::laying::lay_words;
-use cases::text::{behind_next, first_bytes, part_of, place_of};
+use cases::text::{behind_next, first_bytes, part_of, place_of, split_once};
 use policy::reader::read_json;
 use stored::limits::MOST_BYTES;
 use stored::records::byte_at;
@@ -67,12 +67,14 @@ fn run_case(text: &[u8], json: &mut [u8]) {
 }
 
 fn run_line(line: &[u8], json: &mut [u8]) {
-    let colon = place_of(line, b':');
-    if byte_at(line, 0) == b'#' || colon == line.len() {
+    if byte_at(line, 0) == b'#' {
         return;
     }
-    io::write_all(1, part_of(line, 0, colon));
-    run_case(part_of(line, colon + 2, line.len()), json);
+    let Some((name, text)) = split_once(line, b':') else {
+        return;
+    };
+    io::write_all(1, name);
+    run_case(part_of(text, 1, text.len()), json);
 }
 
 pub(crate) fn run_cases(text: &[u8], json: &mut [u8]) {

@@ -1,5 +1,6 @@
 // What is printed of an answer. The buffer holds one filling byte before each case, so that what was written can be told.
 use cases::print::{print_number, print_refusal};
+use cases::same::are_all;
 use refusals::Refusal;
 
 // No record of these cases has it.
@@ -12,11 +13,6 @@ fn print_bytes(bytes: &[u8]) {
     }
 }
 
-// Bytes of a buffer are as they were.
-fn is_untouched(bytes: &[u8]) -> bool {
-    bytes.iter().all(|byte| *byte == FILLING)
-}
-
 // The bytes of a table, and whether those behind it are as they were.
 fn print_table(table: &[u8], size: usize) {
     if table.len() < size {
@@ -24,7 +20,7 @@ fn print_table(table: &[u8], size: usize) {
         return;
     }
     print_bytes(&table[..size]);
-    if !is_untouched(&table[size..]) {
+    if !are_all(&table[size..], FILLING) {
         io::write_all(1, b"; bytes behind it changed");
     }
 }
@@ -39,8 +35,8 @@ pub(crate) fn print_answer(answer: Result<usize, Refusal>, table: &[u8]) {
         }
         Err(refusal) => {
             io::write_all(1, b" refused");
-            print_refusal(u8::from(refusal.reason), refusal.place);
-            if !is_untouched(table) {
+            print_refusal(refusal);
+            if !are_all(table, FILLING) {
                 io::write_all(1, b"; buffer changed");
             }
         }
