@@ -9,6 +9,9 @@ use Rattle.matching.specs.Machinery.Rows.{word_bit, row_bit, mark_row}
 use Rattle.matching.proofs.Rows.{below_or_not, row_zero}
 use Rattle.states.proofs.BitsOfWords.{bit-or, bit-and, bit-none, bit-power}
 use Rattle.columns.specs.declared.runs.Run.{Run}
+use Rattle.columns.specs.declared.words.Word.{Word}
+use Rattle.columns.specs.declared.words.Word.TheVariants as W
+use Rattle.columns.specs.Machinery.Words.{word_of}
 use Rattle.columns.specs.Machinery.LastPositions.{no_positions, word_marked, last_positions, rows_meet}
 use Rattle.columns.specs.Machinery.Plan.{statement_word, began_run, opened_run, seen_run, run_word, run_plan}
 
@@ -80,6 +83,23 @@ last-length (word ∷ plan) row = last-length plan (word_marked row word) ∙ ma
 last-keeps : (plan row : List ℕ) (q : ℕ) → row_bit row q ≡ true → row_bit (last_positions row plan) q ≡ true
 last-keeps [] row q e = e
 last-keeps (word ∷ plan) row q e = last-keeps plan (word_marked row word) q (marks-keep row word q e)
+
+-- what a word marks
+abbrev pub marked_at : List ℕ → Word → List ℕ
+marked_at row W.Statement = row
+marked_at row W.List = row
+marked_at row W.NegatedList = row
+marked_at row (W.Content p) = mark_row row p true
+
+pub word-marks : (row : List ℕ) (n : ℕ) → word_marked row n ≡ marked_at row (word_of n)
+unfolding word_marked
+word-marks row n = by (ltb n 4) (eqb n 1) (eqb n 3)
+  where
+    by : (t s u : Bool) → pick t row (mark_row row (n - 4) true) ≡ marked_at row (pick t (pick s W.Statement (pick u W.NegatedList W.List)) (W.Content (n - 4)))
+    by true true u = refl
+    by true false true = refl
+    by true false false = refl
+    by false s u = refl
 
 -- two rows, word by word
 pub meet-any : (row others : List ℕ) → list_any (λ (p : ℕ × ℕ). not (eqb (bit_and p.0 p.1) 0)) (zip row others) ≡ rows_meet row others

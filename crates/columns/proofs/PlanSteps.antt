@@ -1,5 +1,5 @@
 -- A plan as a loop over the records lays it down: a record adds its word, if any, and the rest is the plan of what is left behind it.
-use Rattle.std.proofs.Common.{ℕ, suc, ◌+◌, ◌-◌, ◌≤◌, ◌<◌, ◌≡◌, refl, ap, ◌∙◌, Bool, true, false, not, ◌&&◌, List, ◌∷◌, ◌++◌, add-one, arith, eqb, length, get_or, drop, drop-cons, lt-ltb, le-ltb}
+use Rattle.std.proofs.Common.{ℕ, suc, ◌+◌, ◌-◌, ◌≤◌, ◌<◌, ◌≡◌, refl, ap, ◌∙◌, Bool, true, false, not, ◌&&◌, List, ◌∷◌, ◌++◌, add-one, arith, eqb, ltb, length, get_or, drop, drop-cons}
 use Rattle.std.specs.Prelude.{Some, None}
 use Rattle.stored.specs.Choice.{pick}
 use Rattle.stored.specs.Items.{column_place, column_negated, key_code}
@@ -9,21 +9,35 @@ use Rattle.stored.specs.declared.items.Item.{Item}
 use Rattle.stored.specs.declared.items.Item.TheVariants as I
 use Rattle.columns.specs.declared.contents.ListAt.{ListAt}
 use Rattle.columns.specs.declared.runs.Run.{Run}
+use Rattle.columns.specs.declared.words.Word.{Word}
+use Rattle.columns.specs.declared.words.Word.TheVariants as W
+use Rattle.columns.specs.Machinery.Words.{word_of}
 use Rattle.columns.specs.Machinery.Lists.{moved_of, positions_of}
-use Rattle.columns.specs.Machinery.Plan.{statement_word, began_run, opened_run, seen_run, run_word, run_plan, list_word, value_word, network_word, with_word, plan_from, item_word, word_alone}
+use Rattle.columns.specs.Machinery.Plan.{began_run, opened_run, seen_run, run_word, run_plan, list_word, value_word, network_word, with_word, plan_from, item_word, word_alone}
 
 -- a run over the words left, one after the other
 module _ (hits : ℕ → Bool) (r : Run) where
   pub run-next : (plan : List ℕ) (i : ℕ) → i < length plan → run_plan hits r (drop i plan) ≡ run_plan hits (run_word hits r (get_or plan i 0)) (drop (i + 1) plan)
   run-next plan i low = ap (run_plan hits r) (drop-cons plan i 0 low) ∙ rw add-one
 
-  pub word-opens : (word : ℕ) → word < 4 → run_word hits r word ≡ pick (eqb word statement_word) (began_run r) (opened_run (eqb word 3) r)
-  unfolding run_word
-  word-opens word low = rw (lt-ltb word 4 low)
+  -- what a word does
+  abbrev pub run_at : Word → Run
+  run_at W.Statement = began_run r
+  run_at W.List = opened_run false r
+  run_at W.NegatedList = opened_run true r
+  run_at (W.Content n) = seen_run (hits n) r
 
-  pub word-seen : (word : ℕ) → 4 ≤ word → run_word hits r word ≡ seen_run (hits (word - 4)) r
+  pub word-does : (n : ℕ) → run_word hits r n ≡ run_at (word_of n)
   unfolding run_word
-  word-seen word high = rw (le-ltb word 4 high)
+  word-does n = by (ltb n 4) (eqb n 1) (eqb n 3)
+    where
+      by : (t s u : Bool)
+          → pick t (pick s (began_run r) (opened_run u r)) (seen_run (hits (n - 4)) r)
+          ≡ run_at (pick t (pick s W.Statement (pick u W.NegatedList W.List)) (W.Content (n - 4)))
+      by true true u = refl
+      by true false true = refl
+      by true false false = refl
+      by false s u = refl
 
 -- a word in front that is there or not
 alone-more : (there : Bool) (word : ℕ) (plan : List ℕ) → with_word there word plan ≡ word_alone (pick there (Some word) None) ++ plan

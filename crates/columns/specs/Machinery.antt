@@ -6,6 +6,7 @@ pub mod ContentsLeft
 pub mod Lists
 pub mod Edges
 pub mod StateWalk
+pub mod Words
 pub mod Plan
 pub mod LastPositions
 pub mod Prints

@@ -11,7 +11,7 @@ ghost use Rattle.columns.specs.Machinery.Edges.{above, next_edge};
 
 use crate::limits::NO_ADDRESS;
 use crate::plan::Plans;
-use crate::runs::FIRST_VALUE;
+use crate::words::Word;
 
 // The end of a network if it lies above an address, else 2 ^ 32.
 fn end_above(end: u64, x: u64) -> u64
@@ -41,10 +41,9 @@ fn network_edge(network: u64, x: u64) -> u64
 fn word_edge(word: u64, x: u64) -> u64
     ensures { result ≡ pick (ltb word 4) (2 ^ 32) (edge_of (word - 4) x) }
 {
-    if word < FIRST_VALUE {
-        NO_ADDRESS
-    } else {
-        network_edge(word - FIRST_VALUE, x)
+    match Word::of(word) {
+        Word::Content(network) => network_edge(network, x),
+        Word::Statement | Word::List | Word::NegatedList => NO_ADDRESS,
     }
 }
 

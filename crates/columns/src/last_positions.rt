@@ -3,7 +3,7 @@ ghost use Rattle.std.specs.Prelude.{◌≡◌, true};
 ghost use Rattle.matching.specs.Machinery.Rows.{mark_row};
 ghost use Rattle.columns.specs.Machinery.LastPositions.{word_marked, last_positions, rows_meet};
 
-use crate::runs::FIRST_VALUE;
+use crate::words::Word;
 use matching::state::{POSITIONS, mark};
 
 // The row with position p marked; past its words a row has no position.
@@ -21,10 +21,10 @@ fn marked(row: [u64; 8], p: usize) -> [u64; 8]
 fn word_marked(row: [u64; 8], word: u64) -> [u64; 8]
     ensures { result ≡ word_marked row word }
 {
-    if word < FIRST_VALUE {
-        return row;
+    match Word::of(word) {
+        Word::Content(p) => marked(row, p as usize),
+        Word::Statement | Word::List | Word::NegatedList => row,
     }
-    marked(row, (word - FIRST_VALUE) as usize)
 }
 
 // The row with the last positions of all values of a plan marked.

@@ -10,3 +10,4 @@ pub mod plan;
 pub mod prints;
 pub mod runs;
 pub mod tables;
+mod words;

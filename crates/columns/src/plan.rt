@@ -8,7 +8,7 @@ ghost use Rattle.states.specs.Machinery.Rows.{codes_at, prints_at};
 ghost use Rattle.columns.specs.Machinery.Plan.{list_word, value_word, network_word, item_word, word_alone, plan_of, PlansFit, LaysPlans};
 
 use crate::contents::ListAt;
-use crate::runs::{FIRST_VALUE, LIST, NEGATED_LIST, STATEMENT};
+use crate::words::Word;
 use judging::rows::key_column;
 use states::limits::CODES;
 use stored::entries::{Entry, entries_of};
@@ -52,7 +52,12 @@ impl Plans {
 fn list_word(here: bool, negated: bool) -> Option<u64>
     ensures { result ≡ pick here (Some (list_word negated)) None }
 {
-    here.then_some(if negated { NEGATED_LIST } else { LIST })
+    let word = if negated {
+        Word::NegatedList
+    } else {
+        Word::List
+    };
+    here.then_some(word.number())
 }
 
 // The word of a value, in a column of strings, by its last position.
@@ -60,7 +65,7 @@ fn value_word(strings: bool, here: bool, p: usize) -> Option<u64>
     requires { 4 + p < 2 ^ 64 }
     ensures { result ≡ pick (strings && here) (Some (value_word p)) None }
 {
-    (strings && here).then_some(FIRST_VALUE + p as u64)
+    (strings && here).then_some(Word::Content(p as u64).number())
 }
 
 // The word of a network, in column 7, by its address and the number of bits behind its prefix.
@@ -68,7 +73,7 @@ fn network_word(strings: bool, here: bool, network: u32, prefix: u8) -> Option<u
     ensures { result ≡ pick (not strings && here) (Some (network_word network prefix)) None }
 {
     let bits = 32u64.saturating_sub(u64::from(prefix));
-    (!strings && here).then_some(FIRST_VALUE + (u64::from(network) * 64 + bits))
+    (!strings && here).then_some(Word::Content(u64::from(network) * 64 + bits).number())
 }
 
 // The word that a record adds to the plan, if any, p being the position in front of it.
@@ -77,7 +82,7 @@ fn item_word(column: usize, strings: bool, here: bool, p: usize, entry: Entry) -
     ensures { result ≡ item_word column strings here p entry.entry.item (length entry.entry.bytes.now) }
 {
     match entry.item {
-        Item::Statement(_) => Some(STATEMENT),
+        Item::Statement(_) => Some(Word::Statement.number()),
         Item::Column(name) => list_word(column_place(name) == column, is_negated_column(name)),
         Item::Condition(operator, key) => list_word(
             key_column(key) == column,

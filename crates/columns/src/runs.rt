@@ -1,21 +1,10 @@
 // The run over the plan of a column, which gathers the rows that hold: with a state, for every string that has it; or with an address.
-ghost use Rattle.std.specs.Prelude.{◌≡◌, ℕ, Bool, eqb};
-ghost use Rattle.stored.specs.Choice.{pick};
+ghost use Rattle.std.specs.Prelude.{◌≡◌, ℕ, Bool};
 ghost use Rattle.matching.specs.Machinery.Rows.{row_bit};
-ghost use Rattle.columns.specs.Machinery.Plan.{statement_word, in_network, fresh_run, closes_run, done_run, began_run, opened_run, seen_run, run_plan};
+ghost use Rattle.columns.specs.Machinery.Plan.{in_network, fresh_run, closes_run, done_run, began_run, opened_run, seen_run, run_plan};
 
+use crate::words::Word;
 use matching::state::has_position;
-
-/// The words of a plan: a statement begins, a list of the column opens, a negated one does, and from FIRST_VALUE on the last position of a
-/// value.
-// stays: project rule (a plan lies in the lent workspace, which is made of numbers).
-pub const STATEMENT: u64 = 1;
-
-pub const LIST: u64 = 2;
-
-pub const NEGATED_LIST: u64 = 3;
-
-pub const FIRST_VALUE: u64 = 4;
 
 /// What is known at a word of a plan.
 // stays: no plainer as one form with judging's Walk, which also knows whether a list is of the column and how it is read.
@@ -102,17 +91,6 @@ impl Run {
             self
         }
     }
-
-    // A statement or a list.
-    fn opened_by(self, word: u64) -> Self
-        ensures { result ≡ pick (eqb word statement_word) (began_run self) (opened_run (eqb word 3) self) }
-    {
-        if word == STATEMENT {
-            self.row_begun()
-        } else {
-            self.list_opened(word == NEGATED_LIST)
-        }
-    }
 }
 
 // The rows that hold by a plan, given which of its values or networks match.
@@ -122,10 +100,11 @@ fn rows_by<H: Fn(u64) -> bool>(plan: &[u64], hits: H) -> u64
 {
     let mut run = Run::fresh();
     for &word in plan {
-        run = if word < FIRST_VALUE {
-            run.opened_by(word)
-        } else {
-            run.value_seen(hits(word - FIRST_VALUE))
+        run = match Word::of(word) {
+            Word::Statement => run.row_begun(),
+            Word::List => run.list_opened(false),
+            Word::NegatedList => run.list_opened(true),
+            Word::Content(content) => run.value_seen(hits(content)),
         };
     }
     run.rows()

@@ -1,12 +1,18 @@
--- The words below the first value are a statement and the two lists.
-use Rattle.std.proofs.Common.{lt-ltb, le-ltb}
-use Rattle.columns.specs.Machinery.LastPositions.{word_marked}
+-- Only what stands in a list is marked.
+use Rattle.std.proofs.Common.{inl, inr, sym, ap, ◌∙◌}
+use Rattle.columns.proofs.LastPositions.{marked_at, word-marks}
 use Rattle.columns.proofs.last_positions.word_marked.Goals as goal
 
-pub returns-then-word-lt-FIRST_VALUE : goal.returns-then-word-lt-FIRST_VALUE
-unfolding word_marked
-returns-then-word-lt-FIRST_VALUE c = simp (lt-ltb c.args.word 4 c.if-word-lt-FIRST_VALUE.true)
+pub returns-in-Content : goal.returns-in-Content
+returns-in-Content c =
+    let a = c.args in
+    c.marked.ensures ∙ sym (word-marks a.row a.word ∙ ap (marked_at a.row) (sym c.of.ensures ∙ c.in-Content.is))
 
-pub returns : goal.returns
-unfolding word_marked
-returns c = rw (le-ltb c.args.word 4 c.if-word-lt-FIRST_VALUE.false) c.marked.ensures
+pub returns-in-Statement : goal.returns-in-Statement
+returns-in-Statement c =
+    let a = c.args in
+    elim c.in-Statement.is [
+      | inl e ↦ sym (word-marks a.row a.word ∙ ap (marked_at a.row) (sym c.of.ensures ∙ e))
+      | inr (inl e) ↦ sym (word-marks a.row a.word ∙ ap (marked_at a.row) (sym c.of.ensures ∙ e))
+      | inr (inr e) ↦ sym (word-marks a.row a.word ∙ ap (marked_at a.row) (sym c.of.ensures ∙ e))
+    ]
