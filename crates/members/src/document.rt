@@ -1,7 +1,6 @@
 // The document and its list of statements: what a token there leads to.
 ghost use Rattle.std.specs.Prelude.{◌≡◌, [], drop};
 ghost use Rattle.json_text.specs.Machinery.Pieces.{content_of};
-ghost use Rattle.json_text.specs.declared.events.Event.TheVariants as E;
 ghost use Rattle.members.specs.declared.state.Level.TheVariants as L;
 ghost use Rattle.members.specs.Machinery.States.{standing, state_of, as_turn};
 ghost use Rattle.members.specs.Machinery.Verdicts.{top_whole};
@@ -21,58 +20,9 @@ fn top_whole(seen: Marks) -> bool
     seen.is_seen(TopName::Version) && seen.is_seen(TopName::Statement)
 }
 
-// A name: unknown or met before, 21.
-fn top_member(state: State, text: &[u8], from: usize) -> Result<State, Reason>
-    ensures { as_turn result ≡ in_top (state_of state) E.Name (content_of (drop from text.now)) }
-{
-    let (name, top) = state.top.meet(text, from)?;
-    Ok(State::in_document(Level::Top(Some(name)), top))
-}
-
-// A string: the one Version, or 22.
+// A token among the document's members. A name: unknown or met before, 21. A string: the one Version. A list or an object: of statements,
+// the only one. The closing brace: 22 where something is missing.
 #[tactic(auto, unfolding(crate::specs::Members::version_text))]
-fn top_text(state: State, due: Option<TopName>, text: &[u8], from: usize) -> Result<State, Reason>
-    ensures { as_turn result ≡ in_top (standing (L.Top due) state) E.Text (content_of (drop from text.now)) }
-{
-    if matches!(due, Some(TopName::Version)) && string_is(text, from, b"2012-10-17") {
-        Ok(State::in_document(Level::Top(None), state.top))
-    } else {
-        Err(Reason::WrongForm)
-    }
-}
-
-// A list: of statements.
-fn top_list(state: State, due: Option<TopName>) -> Result<State, Reason>
-    ensures { as_turn result ≡ in_top (standing (L.Top due) state) E.OpenList [] }
-{
-    match due {
-        Some(TopName::Version) => Err(Reason::WrongForm),
-        Some(TopName::Statement) | None => Ok(State::in_document(Level::Rows, state.top)),
-    }
-}
-
-// An object: the only statement.
-fn top_object(state: State, due: Option<TopName>) -> Result<State, Reason>
-    ensures { as_turn result ≡ in_top (standing (L.Top due) state) E.OpenObject [] }
-{
-    match due {
-        Some(TopName::Version) => Err(Reason::WrongForm),
-        Some(TopName::Statement) | None => Ok(State::in_document(Level::Row(None), state.top)),
-    }
-}
-
-// The closing brace: 22 where something is missing.
-fn top_end(state: State) -> Result<State, Reason>
-    ensures { as_turn result ≡ in_top (state_of state) E.CloseObject [] }
-{
-    if top_whole(state.top) {
-        Ok(State::begin())
-    } else {
-        Err(Reason::WrongForm)
-    }
-}
-
-// A token among the document's members.
 pub(crate) fn in_top(
     state: State,
     due: Option<TopName>,
@@ -83,14 +33,20 @@ pub(crate) fn in_top(
     requires { state.level ≡ L.Top due }
     ensures { as_turn result ≡ in_top (standing (L.Top due) state) event (content_of (drop from text.now)) }
 {
+    let version = matches!(due, Some(TopName::Version));
     match event {
+        Event::Name => {
+            let (name, top) = state.top.meet(text, from)?;
+            Ok(State::in_document(Level::Top(Some(name)), top))
+        }
+        Event::Text if version && string_is(text, from, b"2012-10-17") => {
+            Ok(State::in_document(Level::Top(None), state.top))
+        }
+        Event::OpenList if !version => Ok(State::in_document(Level::Rows, state.top)),
+        Event::OpenObject if !version => Ok(State::in_document(Level::Row(None), state.top)),
         Event::CloseList => Ok(state),
-        Event::Name => top_member(state, text, from),
-        Event::Text => top_text(state, due, text, from),
-        Event::Other => Err(Reason::WrongForm),
-        Event::OpenList => top_list(state, due),
-        Event::OpenObject => top_object(state, due),
-        Event::CloseObject => top_end(state),
+        Event::CloseObject if top_whole(state.top) => Ok(State::begin()),
+        _ => Err(Reason::WrongForm),
     }
 }
 

@@ -17,6 +17,8 @@ fn small_letter(byte: u8) -> u8
 }
 
 // The string that begins at a place says this name, written in small letters.
+// stays: no plainer (its twin, json_text's string_is, compares bytes as they are; one for both would take a closure, and each of its callers
+// would have to show what that closure answers)
 pub(crate) fn string_is_folded(text: &[u8], from: usize, name: &[u8]) -> bool
     ensures { result ≡ same_bytes (map small (content_of (drop from text.now))) name.now }
 {

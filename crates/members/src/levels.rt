@@ -1,7 +1,6 @@
 // One token of a document that has no 20: what it leads to, by the level at which it stands.
 ghost use Rattle.std.specs.Prelude.{◌≡◌, [], drop};
 ghost use Rattle.json_text.specs.Machinery.Pieces.{content_of};
-ghost use Rattle.members.specs.declared.state.Level.TheVariants as L;
 ghost use Rattle.members.specs.Machinery.States.{level_of, due_of, state_of, as_turn};
 ghost use Rattle.members.specs.Machinery.Levels.{outside, in_strings, turn_in};
 

@@ -1,7 +1,6 @@
 // The object of a principal: what a token among its members leads to.
-ghost use Rattle.std.specs.Prelude.{◌≡◌, [], drop};
+ghost use Rattle.std.specs.Prelude.{◌≡◌, drop};
 ghost use Rattle.json_text.specs.Machinery.Pieces.{content_of};
-ghost use Rattle.json_text.specs.declared.events.Event.TheVariants as E;
 ghost use Rattle.members.specs.Machinery.States.{state_of, as_turn};
 ghost use Rattle.members.specs.Machinery.Levels.{in_principals};
 
@@ -10,26 +9,7 @@ use crate::state::{Level, State};
 use json_text::events::Event;
 use refusals::Reason;
 
-// A name: unknown or met before, 21.
-fn aws_member(state: State, text: &[u8], from: usize) -> Result<State, Reason>
-    ensures { as_turn result ≡ in_principals (state_of state) E.Name (content_of (drop from text.now)) }
-{
-    let (_, principals) = state.principals.meet::<AwsName>(text, from)?;
-    Ok(state.in_principal(Level::Principals, principals))
-}
-
-// The closing brace: 22 where AWS is missing.
-fn aws_end(state: State) -> Result<State, Reason>
-    ensures { as_turn result ≡ in_principals (state_of state) E.CloseObject [] }
-{
-    if state.principals.is_seen(AwsName::Aws) {
-        Ok(state.in_statement(Level::Row(None), state.row))
-    } else {
-        Err(Reason::WrongForm)
-    }
-}
-
-// A token among the members of a principal.
+// A token among the members of a principal. A name: unknown or met before, 21. The closing brace: 22 where AWS is missing.
 pub(crate) fn in_principals(
     state: State,
     event: Event,
@@ -39,11 +19,16 @@ pub(crate) fn in_principals(
     ensures { as_turn result ≡ in_principals (state_of state) event (content_of (drop from text.now)) }
 {
     match event {
-        Event::CloseList => Ok(state),
-        Event::Name => aws_member(state, text, from),
+        Event::Name => {
+            let (_, principals) = state.principals.meet::<AwsName>(text, from)?;
+            Ok(state.in_principal(Level::Principals, principals))
+        }
         Event::Text => Ok(state.in_principal(Level::Principals, state.principals)),
         Event::OpenList => Ok(state.in_principal(Level::PrincipalStrings, state.principals)),
-        Event::Other | Event::OpenObject => Err(Reason::WrongForm),
-        Event::CloseObject => aws_end(state),
+        Event::CloseList => Ok(state),
+        Event::CloseObject if state.principals.is_seen(AwsName::Aws) => {
+            Ok(state.in_statement(Level::Row(None), state.row))
+        }
+        Event::Other | Event::OpenObject | Event::CloseObject => Err(Reason::WrongForm),
     }
 }

@@ -1,5 +1,5 @@
 // The wishes of a document, one a call, in the order of the table.
-ghost use Rattle.std.specs.Prelude.{◌≡◌, ◌-◌, ◌≤◌, suc, length};
+ghost use Rattle.std.specs.Prelude.{◌≡◌, suc, length};
 ghost use Rattle.json_text.specs.Machinery.Marks.{tokens_at};
 ghost use Rattle.stored.specs.declared.items.Sort.TheVariants as S;
 ghost use Rattle.members.specs.Members.{top_kind, itself};
