@@ -29,10 +29,12 @@ fn byte_code(fold: bool, b: u8) -> u64
 pub(crate) fn symbol_code(wild: bool, fold: bool, b: u8) -> u64
     ensures { result ≡ symbol_code fold (symbol_of wild b) }
 {
-    match (wild, b) {
-        (true, STAR) => BEHIND_STAR,
-        (true, ONE) => BEHIND_ONE,
-        _ => byte_code(fold, b),
+    if wild && b == STAR {
+        BEHIND_STAR
+    } else if wild && b == ONE {
+        BEHIND_ONE
+    } else {
+        byte_code(fold, b)
     }
 }
 

@@ -32,6 +32,7 @@ fn row_of_value(symbols: Symbols, begins: bool, b: u8, row: [u64; 8]) -> [u64; 8
 }
 
 // Whether the symbols match the whole string, by the row that the string reaches. Apart, so that what needs no row stays short.
+#[inline(never)]
 fn rows_match(symbols: Symbols, string: &[u8]) -> bool
     requires { length (symbols_left symbols) < positions }
     ensures { result ≡ left_matches symbols.entry string.now }
