@@ -2,7 +2,7 @@
 use crate::request::lay_request;
 use cases::laying::lay_words;
 use cases::print::print_refusal;
-use cases::text::{begins_with, first_bytes, part_of, place_of};
+use cases::text::{begins_with, first_bytes, split_once};
 use judging::judge::{Verdict, judge};
 use refusals::Refusal;
 
@@ -19,22 +19,23 @@ fn word_of(answer: Result<Verdict, Refusal>) -> &'static [u8] {
 fn print_answer(answer: Result<Verdict, Refusal>) {
     io::write_all(1, word_of(answer));
     if let Err(refusal) = answer {
-        print_refusal(u8::from(refusal.reason), refusal.place);
+        print_refusal(refusal);
     }
     io::write_all(1, b"\n");
 }
 
 // Runs one line and gives the size of the table at hand. A line without a colon, or with `#` in front, does nothing.
 fn run_line(line: &[u8], table: &mut [u8], size: usize, room: &mut [u8]) -> usize {
-    let colon = place_of(line, b':');
-    if begins_with(line, b"#") || line.len() <= colon {
+    if begins_with(line, b"#") {
         return size;
     }
-    let rest = part_of(line, colon + 1, line.len());
-    if begins_with(line, b"table ") {
+    let Some((name, rest)) = split_once(line, b':') else {
+        return size;
+    };
+    if begins_with(name, b"table ") {
         return lay_words(rest, table);
     }
-    io::write_all(1, first_bytes(line, colon));
+    io::write_all(1, name);
     print_answer(judge(first_bytes(table, size), lay_request(rest, room)));
     size
 }
