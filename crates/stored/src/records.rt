@@ -78,14 +78,11 @@ pub fn size_of(kind: Kind) -> usize
     ensures { result ≡ size_of kind }
 {
     match kind {
-        Kind::Start => 1,
-        Kind::Statement => 1,
-        Kind::Column => 1,
+        Kind::Start | Kind::Statement | Kind::Column => 1,
         Kind::Condition => 2,
-        Kind::End => 0,
         Kind::Network => 5,
         Kind::Value(length) => length,
-        Kind::Unknown => 0,
+        Kind::End | Kind::Unknown => 0,
     }
 }
 

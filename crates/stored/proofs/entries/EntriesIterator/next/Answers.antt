@@ -19,10 +19,14 @@ overflow_add-end c =
     omega arith
 
 pub slice_bounds-bytes-end : goal.slice_bounds-bytes-end
-slice_bounds-bytes-end c = (inside _ _ _ _ _ (sym c.in-Ok.ensures)).1
+slice_bounds-bytes-end c =
+    let within = inside _ _ _ _ _ (sym c.in-Ok.ensures) in
+    omega arith
 
 pub slice_bounds-self-count : goal.slice_bounds-self-count
-slice_bounds-self-count c = (inside _ _ _ _ _ (sym c.in-Ok.ensures)).1
+slice_bounds-self-count c =
+    let within = inside _ _ _ _ _ (sym c.in-Ok.ensures) in
+    omega arith
 
 pub slice_bounds-self-start : goal.slice_bounds-self-start
 slice_bounds-self-start c =
