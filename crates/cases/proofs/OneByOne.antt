@@ -1,6 +1,5 @@
 -- Laying down, a byte, a sign or a word at a time: what is left to lay down from a place on is the next and what is left behind it.
-use Rattle.std.proofs.Common.{length-set, ◌∷◌, [], min, replicate, ◌++◌, leb, leb-true, leb-false, add-zero, append_assoc, take-append-drop, ℕ, zero, suc, ◌+◌, ◌-◌, ◌<◌, ◌≤◌, ◌≡◌, refl, sym, ◌∙◌, ap, ap₂, Bool, true, false, List, eqb, ltb, length-drop, arith, length, get_or, take, drop, set, le-leb, lt-ltb, le-ltb}
-use Rattle.std.proofs.lemmas.Bool.{lt-leb}
+use Rattle.std.proofs.Common.{length-set, ◌∷◌, [], min, replicate, ◌++◌, leb, leb-true, leb-false, add-zero, append_assoc, take-append-drop, ℕ, zero, suc, ◌+◌, ◌-◌, ◌<◌, ◌≤◌, ◌≡◌, refl, sym, ◌∙◌, ap, ap₂, Bool, true, false, List, eqb, ltb, length-drop, arith, length, get_or, take, drop, set, lt-ltb, le-ltb}
 use Rattle.std.proofs.lemmas.List.{take_more_set, drop-set-lt, get_or-drop}
 use Rattle.std.proofs.Math.Seq.{drop-drop}
 use Rattle.stored.specs.Choice.{pick}

@@ -1,5 +1,5 @@
 -- How many bytes there are up to the first that is wanted: what a search for it says, and one byte more where it is there.
-use Rattle.std.proofs.Common.{◌≡◌, ◌≢◌, ℕ, ◌+◌, ◌<◌, ◌≤◌, min, Bool, true, false, List, [], ◌∷◌, Option, MatchOption, HoldsAt, unwrap_or, eqb, length, refl, sym, ap, ◌∙◌, arith, rules}
+use Rattle.std.proofs.Common.{◌≡◌, ◌≢◌, ℕ, ◌+◌, ◌<◌, min, Bool, true, false, List, [], ◌∷◌, Option, MatchOption, HoldsAt, unwrap_or, eqb, length, refl, arith}
 use Rattle.std.proofs.lemmas.Bool.{eq-eqb, ne_eqb}
 use Rattle.std.specs.List.{AllWithin}
 use Rattle.std.proofs.lemmas.Iterator.{index_from_first}

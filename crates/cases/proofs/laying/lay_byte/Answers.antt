@@ -1,5 +1,5 @@
 -- The bytes filled are those that have room.
-use Rattle.std.proofs.Common.{◌≡◌, ℕ, ◌∙◌, ◌+◌, ◌-◌, length, replicate, sym, ap, arith, rules, take, drop, length-drop, length-take-le}
+use Rattle.std.proofs.Common.{◌≡◌, ℕ, ◌∙◌, length, replicate, sym, ap, arith, rules, take, drop, length-drop, length-take-le}
 use Rattle.std.proofs.Math.Nat.{add-sub_cancel_left}
 use Rattle.std.proofs.Math.Seq.{drop-drop}
 use Rattle.cases.specs.Laying.{Laid}
