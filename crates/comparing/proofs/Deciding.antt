@@ -1,7 +1,7 @@
 -- A string's state decides its footprint: a listed value matches the string exactly when the last of its pairs is in the state, and a row
 -- looks at nothing else.
 use Rattle.std.proofs.Common.{ℕ, zero, suc, ◌<◌, ◌≡◌, refl, sym, ◌∙◌, ap, ap₂, Bool, true, false, ◌&&◌, ◌||◌, List, [], ◌∷◌, ◌++◌, map, not-suc-le-zero, arith, eqb, length}
-use lib.Seq.{take-length}
+use Rattle.std.proofs.Math.Seq.{take-length}
 use Rattle.stored.specs.Choice.{pick, some, every}
 use Rattle.stored.specs.Items.{column_place, column_negated}
 use Rattle.stored.specs.Operators.{row_of}

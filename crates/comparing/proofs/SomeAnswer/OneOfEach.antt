@@ -1,6 +1,6 @@
 -- What a function tells apart: a search for an element that is like none of a list, and of the elements of a list that are alike the first.
 use Rattle.std.proofs.Common.{◌≡◌, refl, sym, ap, subst, ◌∙◌, Bool, true, false, true≢false, List, [], ◌∷◌, ◌⊎◌, inl, inr}
-use mathlib.Core.Bool.{Bool-discrete}
+use Rattle.std.proofs.Math.Bool.{Bool-discrete}
 use mathlib.Core.List.{List-discrete}
 use Rattle.comparing.specs.Order.{In, Ascending}
 use Rattle.comparing.specs.Machinery.Product.{keep}

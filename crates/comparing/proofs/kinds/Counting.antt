@@ -1,10 +1,10 @@
 -- The recursion over the columns counts the gaps and finds gap k: the rows still left are those that hold in every column passed, so with
 -- each value it goes on to the requests that have this value in front.
 use Rattle.std.proofs.Common.{ℕ, zero, suc, ◌+◌, ◌-◌, ◌^◌, ◌<◌, ◌≤◌, ◌≡◌, refl, sym, ◌∙◌, ap, ap₂, subst, Bool, true, false, ◌&&◌, List, [], ◌∷◌, ◌++◌, map, mod-eq_of_lt, not-suc-le-zero, arith, bit_and, ltb, length, get_or, length-append, get_or-append-add, ltb-true, ltb-false}
-use mathlib.Core.Path.{fun_ext}
-use mathlib.Core.Bool.{and-true, and_assoc}
-use lib.Bits.{and_comm, and_mask}
-use lib.ListN.{length-map, get_or-append}
+use Rattle.std.proofs.Math.Path.{fun_ext}
+use Rattle.std.proofs.Math.Bool.{and-true, and_assoc}
+use Rattle.std.specs.Int.Bits.{and_comm, and_mask}
+use Rattle.std.proofs.Math.ListN.{length-map, get_or-append}
 use Rattle.stored.specs.Choice.{pick}
 use Rattle.stored.specs.Tables.{Statement}
 use Rattle.judging.specs.Requests.{Value, absent, columns}

@@ -1,7 +1,7 @@
 -- There are no more gaps than kinds of request: the footprints of its columns tell two listed gaps apart, and each listed gap has the
 -- footprints of a request made of one value for each footprint of each column; there are as many of these as the product of the counts.
 use Rattle.std.proofs.Common.{ℕ, suc, ◌*◌, ◌≤◌, ◌≡◌, refl, sym, ◌∙◌, ap₂, subst, Bool, List, [], ◌∷◌, map, inl, inr, arith, length, length-append}
-use lib.ListN.{length-map}
+use Rattle.std.proofs.Math.ListN.{length-map}
 use Rattle.stored.specs.Tables.{Statement}
 use Rattle.stored.proofs.Choosing.{never}
 use Rattle.judging.specs.Requests.{Value}

@@ -1,7 +1,7 @@
 -- Gap k's footprints are laid column by column: those before a column are in place and the others 0, as they are behind a column that
 -- has no footprint.
 use Rattle.std.proofs.Common.{ℕ, zero, suc, ◌+◌, ◌-◌, ◌≤◌, ◌<◌, ◌≡◌, refl, sym, ◌∙◌, ap, subst, Bool, List, [], ◌∷◌, ◌++◌, append_assoc, mod-eq_of_lt, add-one, arith, bit_and, length, get_or, take, drop, set, replicate, take-append-drop, length-set, pow_pos, drop-drop, drop-set-lt, take-suc-set, le-ltb}
-use lib.Bits.{and_zero_l, and_zero_r}
+use Rattle.std.specs.Int.Bits.{and_zero_l, and_zero_r}
 use Rattle.stored.specs.Choice.{pick}
 use Rattle.comparing.specs.Machinery.Kinds.{count_of, steps_to, left_of, step_of, prints_along, prints_from, prints_in}
 use Rattle.comparing.specs.declared.sides.Sides.{Sides}

@@ -1,11 +1,11 @@
 -- Gaps by sets of rows are gaps by statements: of a word of both tables' rows the low bits are the first table's and the high bits the
 -- second's, and a table allows where some row is left and all that are left allow.
 use Rattle.std.proofs.Common.{ℕ, suc, ◌+◌, ◌*◌, ◌/◌, ◌%◌, ◌^◌, ◌<◌, ◌≤◌, ◌≡◌, refl, sym, ◌∙◌, ap, ap₂, Bool, true, false, not, ◌&&◌, ◌||◌, List, [], ◌∷◌, ◌++◌, map, mul_comm, add_comm, arith, bit_and, eqb, length, ne_eqb}
-use mathlib.Core.Bool.{and_comm}
-use lib.Arith.{bin_ind}
-use lib.Bits.{and_step, and_shr, and_mod, and_zero_l}
-use lib.ListN.{length-map}
-use lib.Pow.{low, high}
+use Rattle.std.proofs.Math.Bool.{and_comm}
+use Rattle.std.proofs.Math.Arith.{bin_ind}
+use Rattle.std.specs.Int.Bits.{and_step, and_shr, and_mod, and_zero_l}
+use Rattle.std.proofs.Math.ListN.{length-map}
+use Rattle.std.proofs.Math.Pow.{low, high}
 use borrow.Author.Tests.{eqb-false}
 use Rattle.stored.specs.Choice.{some}
 use Rattle.stored.specs.Tables.{Statement}

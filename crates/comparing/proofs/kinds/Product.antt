@@ -1,6 +1,6 @@
 -- The requests made of the first values of eight columns, those kept that only the first table allows, are the gaps.
 use Rattle.std.proofs.Common.{ℕ, suc, ◌+◌, ◌≡◌, refl, sym, ◌∙◌, ap, ap₂, subst, Bool, true, false, not, ◌&&◌, List, [], ◌∷◌, map, ◌⊎◌, inl, inr, arith, length}
-use mathlib.Core.Bool.{false≢true}
+use Rattle.std.proofs.Math.Bool.{false≢true}
 use borrow.Author.Tests.{not-true}
 use Rattle.stored.specs.Tables.{Statement}
 use Rattle.judging.specs.Requests.{Value, columns}

@@ -1,7 +1,7 @@
 -- Where all rows left are in every footprint of the columns ahead, all kinds there have the same rows, and so the same verdict.
 use Rattle.std.proofs.Common.{ℕ, zero, suc, ◌+◌, ◌-◌, ◌*◌, ◌/◌, ◌%◌, ◌^◌, ◌<◌, ◌≤◌, ◌≡◌, refl, sym, ◌∙◌, ap, ap₂, Bool, true, false, ◌||◌, List, [], ◌∷◌, map, suc-mul, mul_assoc, mul-add, mul_comm, mul-le-mul, mod-lt, mod-eq_of_lt, div-add-mod', add-one, arith, bit_and, eqb, ltb, length, get_or, set, length-set, get_or-set_same, get_or-set_other, eqb-true, ltb-true, ltb-false}
-use native.Mathlib.Nat.{mul-add-mod_self_right}
-use lib.Bits.{and_comm, and_le_r}
+use Rattle.std.proofs.Math.Nat.{mul-add-mod_self_right}
+use Rattle.std.specs.Int.Bits.{and_comm, and_le_r}
 use Rattle.judging.specs.Machinery.Rows.{bit_of}
 use Rattle.comparing.specs.Compared.{product, most_kinds}
 use Rattle.comparing.specs.Machinery.Kinds.{is_gap_rows, total, count_of, meet_all, meet_of, is_settled, prints_from, prints_in, Bounded, kinds_from, KindsAhead}

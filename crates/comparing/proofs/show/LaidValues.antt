@@ -1,7 +1,7 @@
 -- The values of a gap, laid one after the other over zeros, each in its 512 bytes: what is laid down is what the answer says.
 use Rattle.std.proofs.Common.{ℕ, zero, suc, ◌+◌, ◌-◌, ◌*◌, ◌≤◌, ◌<◌, ◌≡◌, refl, sym, ◌∙◌, ap, ap₂, Bool, Option, Some, is_some, unwrap_or, List, [], ◌∷◌, ◌++◌, append_assoc, arith, length, drop, replicate, length-append, take_at, drop_at, drop-drop, le-ltb}
-use lib.ListN.{length-replicate, replicate-append-replicate}
-use lib.Seq.{sets, sets-eq}
+use Rattle.std.proofs.Math.ListN.{length-replicate, replicate-append-replicate}
+use Rattle.std.proofs.Math.Seq.{sets, sets-eq}
 use Rattle.stored.specs.Choice.{pick}
 use Rattle.stored.specs.Tables.{Statement}
 use Rattle.judging.specs.Requests.{Value, absent, text, number, is_present, columns, column_of}

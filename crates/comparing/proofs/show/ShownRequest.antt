@@ -1,8 +1,8 @@
 -- An answer for a gap and the value buffer give the gap's request back: each value stands in its 512 bytes, and the answer says which
 -- are there.
 use Rattle.std.proofs.Common.{ℕ, zero, suc, ◌+◌, ◌-◌, ◌*◌, ◌≤◌, ◌<◌, ◌≡◌, refl, sym, ◌∙◌, ap, ap₂, Bool, true, false, List, [], ◌∷◌, ◌++◌, append_assoc, arith, ltb, length, take, drop, replicate, length-append, take_at, drop_at, drop-drop, ltb-false}
-use lib.ListN.{length-replicate}
-use lib.Seq.{take-append_seam}
+use Rattle.std.proofs.Math.ListN.{length-replicate}
+use Rattle.std.proofs.Math.Seq.{take-append_seam}
 use Rattle.stored.specs.Choice.{pick}
 use Rattle.judging.specs.Requests.{Value, absent, text, number, is_present, columns, column_of, key_value}
 use Rattle.comparing.specs.Requests.{AdmitsNeeded, AdmitsOptional, AdmitsAddress, Admitted, Each}

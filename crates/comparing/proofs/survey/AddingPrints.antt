@@ -1,6 +1,6 @@
 -- Footprints in the workspace, from one bound to another: one after the other, one more behind them, and as the footprints of what was found.
 use Rattle.std.proofs.Common.{ℕ, zero, suc, ◌+◌, ◌-◌, ◌≤◌, ◌<◌, ◌≡◌, refl, sym, ap, ap₂, ◌∙◌, Bool, true, false, ◌||◌, List, [], ◌∷◌, ◌++◌, map, arith, eqb, length, get_or, take, drop, set, length-drop, drop-cons, take-suc-set, length-take-le}
-use lib.Seq.{drop-set-add}
+use Rattle.std.proofs.Math.Seq.{drop-set-add}
 use Rattle.std.specs.List.{list_any}
 use Rattle.stored.specs.Choice.{pick, some}
 use Rattle.states.specs.Machinery.Rows.{prints_at}

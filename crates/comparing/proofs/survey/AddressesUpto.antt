@@ -1,6 +1,6 @@
 -- The loop over the edges of networks, as far as it has come: what was found, and that the rest of the way leads to what is found in the end.
 use Rattle.std.proofs.Common.{ℕ, zero, suc, ◌+◌, ◌*◌, ◌^◌, ◌≤◌, ◌<◌, ◌≡◌, refl, sym, ap, ap₂, ◌∙◌, Bool, true, false, List, [], ◌∷◌, ◌++◌, map, arith, eqb, ltb, length, take, length-append, ne_eqb}
-use lib.ListN.{length-map}
+use Rattle.std.proofs.Math.ListN.{length-map}
 use Rattle.stored.specs.Choice.{pick, some}
 use Rattle.stored.specs.Tables.{Statement}
 use Rattle.judging.specs.Requests.{absent, number}

@@ -1,6 +1,6 @@
 -- The codes of two tables' values laid down in the workspace, one behind the other: they are the codes of both, and the footprints stay.
 use Rattle.std.proofs.Common.{ℕ, ◌+◌, ◌≤◌, ◌≡◌, refl, sym, ap, ap₂, ◌∙◌, List, ◌++◌, arith, length, take, drop, length-append, length-drop, take_at, drop_at, drop-drop, length-take-le}
-use lib.Seq.{sets, sets-eq, length-sets, take-append-le}
+use Rattle.std.proofs.Math.Seq.{sets, sets-eq, length-sets, take-append-le}
 use Rattle.stored.specs.Tables.{Statement}
 use Rattle.matching.specs.Machinery.Codes.{codes_of}
 use Rattle.states.specs.Machinery.Rows.{prints_at, codes_at, taken_at, codes_laid}

@@ -1,7 +1,7 @@
 -- The footprints of a column of strings in the workspace are those of its first values, by which of three ways they came there: no value at
 -- all, the rows but the empty string's, or absence and then all rows.
 use Rattle.std.proofs.Common.{ℕ, ◌+◌, ◌-◌, ◌≤◌, ◌<◌, ◌≡◌, refl, sym, ap, ap₂, ◌∙◌, List, [], ◌∷◌, ◌++◌, map, arith, length, take}
-use lib.ListN.{length-map}
+use Rattle.std.proofs.Math.ListN.{length-map}
 use Rattle.stored.specs.Tables.{Statement}
 use Rattle.matching.specs.declared.reading.Reading.{Reading}
 use Rattle.matching.specs.Machinery.Codes.{codes_of}
