@@ -1,7 +1,7 @@
 // The answers of the comparison.
 use refusals::Reason;
 
-// What a refusal speaks of: the comparison of both tables, or one of them.
+/// What a refusal speaks of: the comparison of both tables, or one of them.
 #[derive(Clone, Copy, Debug, PartialEq, Eq)]
 pub enum Side {
     Comparison,
@@ -25,7 +25,7 @@ impl From<Side> for u8 {
     }
 }
 
-// Why a question about two tables is refused, of which of them, and the place.
+/// Why a question about two tables is refused, of which of them, and the place.
 #[derive(Clone, Copy, Debug, PartialEq, Eq)]
 pub struct Refused {
     pub reason: Reason,
@@ -48,7 +48,7 @@ impl Refused {
     }
 }
 
-// What a shown gap is, beside its bytes: the lengths of the values of columns 0 to 6, and the address. A key that is absent has none.
+/// What a shown gap is, beside its bytes: the lengths of the values of columns 0 to 6, and the address. A key that is absent has none.
 #[derive(Clone, Copy, Debug, PartialEq, Eq)]
 pub struct Shape {
     pub principal: usize,

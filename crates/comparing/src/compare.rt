@@ -80,14 +80,11 @@ fn sides_of(tables: Tables) -> Sides
 fn read_side(table: &[u8], side: Side) -> Result<u8, Refused>
     ensures { MatchResult result (λ rows. reading table.now ≡ A.Accepted rows) (λ refused. (refused.table ≡ side) × (reading table.now ≡ A.Refused (number_of refused.reason) refused.place)) }
 {
-    match read(table) {
-        Ok(rows) => Ok(rows),
-        Err(Refusal { reason, place }) => Err(Refused {
-            reason,
-            table: side,
-            place,
-        }),
-    }
+    read(table).map_err(|Refusal { reason, place }| Refused {
+        reason,
+        table: side,
+        place,
+    })
 }
 
 // Both tables as the reader accepts them, or the refusal of the first that it does not.
@@ -121,7 +118,7 @@ fn count(words: &mut [u64], first: &[u8], second: &[u8]) -> Result<u64, Refused>
     Ok(footprints.count_gaps())
 }
 
-// How many kinds of request the first table allows and the second does not. The workspace is all zero afterwards, unless it is too short.
+/// How many kinds of request the first table allows and the second does not. The workspace is all zero afterwards, unless it is too short.
 pub fn gap_count(workspace: &mut [u64], first: &[u8], second: &[u8]) -> Result<u64, Refused>
     ensures answer { Compared (length workspace.old) first.now second.now (as_counting result) }
     ensures left { workspace.new ≡ cleared (ltb (length workspace.old) workspace_words) workspace.old }
@@ -156,7 +153,7 @@ fn find(
     Ok(shape)
 }
 
-// Gap k, counted from 0: the first value of each column is laid down in the value buffer. A refused question leaves that buffer as it was.
+/// Gap k, counted from 0: the first value of each column is laid down in the value buffer. A refused question leaves that buffer as it was.
 pub fn gap(
     workspace: &mut [u64],
     first: &[u8],

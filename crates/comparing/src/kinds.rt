@@ -58,25 +58,25 @@ fn kinds_of(bounds: &[usize; 9]) -> [u64; 9]
     kinds
 }
 
-// A footprint of a column, and what is left of k there.
+/// A footprint of a column, and what is left of k there.
 #[derive(Clone, Copy)]
 pub struct Step {
     pub print: u64,
     pub left: u64,
 }
 
-// The footprints of all columns in the workspace, those of a column from its bound to the next one's; of the columns from each one on, the
-// rows that all their footprints have, and the number of their kinds as a number of 32 bits; and whose rows they are.
+/// The footprints of all columns in the workspace, those of a column from its bound to the next one's; of the columns from each one on, the
+/// rows that all their footprints have, and the number of their kinds as a number of 32 bits; and whose rows they are.
 #[derive(Clone, Copy)]
-pub struct Footprints<'a> {
-    pub words: &'a [u64],
-    pub bounds: [usize; 9],
-    pub meets: [u64; 9],
-    pub kinds: [u64; 9],
-    pub sides: Sides,
-    pub ghost bounded: { Bounded words.now bounds },
-    pub ghost meets_ahead: { MeetsAhead words.now bounds meets },
-    pub ghost kinds_ahead: { KindsAhead bounds kinds },
+pub(crate) struct Footprints<'a> {
+    words: &'a [u64],
+    bounds: [usize; 9],
+    meets: [u64; 9],
+    kinds: [u64; 9],
+    sides: Sides,
+    ghost bounded: { Bounded words.now bounds },
+    ghost meets_ahead: { MeetsAhead words.now bounds meets },
+    ghost kinds_ahead: { KindsAhead bounds kinds },
 }
 
 impl<'a> Footprints<'a> {

@@ -1,7 +1,7 @@
 // The verdicts of both tables on a set of rows: whether the first allows by its rows, and the second does not.
 ghost use Rattle.std.specs.Prelude.{◌≤◌};
 
-// The number of rows of the first table, its allow rows, and the second table's allow rows.
+/// The number of rows of the first table, its allow rows, and the second table's allow rows.
 #[derive(Clone, Copy)]
 pub struct Sides {
     pub size: u64,

@@ -24,8 +24,8 @@ use states::limits::{CODES, PRINTS, TAKEN};
 use states::rows::row_at;
 use states::taken::lay_taken;
 
-// The states of a column of strings: the positions of the first table's values, of both tables' values, and the number of states, unless
-// they pass 512.
+/// The states of a column of strings: the positions of the first table's values, of both tables' values, and the number of states, unless
+/// they pass 512.
 #[derive(Clone, Copy)]
 pub struct States {
     pub own: usize,

@@ -1,5 +1,5 @@
 -- What a survey of the columns gives the two questions: each refusal in its turn, and what is left when none is given.
-use Rattle.std.proofs.Common.{ℕ, suc, ◌+◌, ◌-◌, ◌^◌, ◌≤◌, ◌<◌, ◌≡◌, refl, sym, ◌∙◌, ap, ap₂, subst, Bool, true, false, ◌||◌, List, [], ◌∷◌, ◌++◌, map, ◌⊎◌, inl, inr, ltb, length, replicate, lt-ltb, le-ltb, Result, Ok, Err}
+use Rattle.std.proofs.Common.{ℕ, suc, ◌+◌, ◌-◌, ◌^◌, ◌≤◌, ◌<◌, ◌≡◌, refl, sym, ◌∙◌, ap, ap₂, subst, Bool, true, false, ◌||◌, List, [], ◌∷◌, ◌++◌, map, inr, ltb, length, replicate, lt-ltb, le-ltb, Result, Ok, Err}
 use Rattle.std.proofs.Math.ListN.{length-map}
 use Rattle.refusals.specs.Numbers.{number_of}
 use Rattle.stored.specs.Reading.{reading, ReadAnswer as A}

@@ -1,7 +1,6 @@
 -- Footprints in the workspace, from one bound to another: one after the other, one more behind them, and as the footprints of what was found.
 use Rattle.std.proofs.Common.{ℕ, zero, suc, ◌+◌, ◌-◌, ◌≤◌, ◌<◌, ◌≡◌, refl, sym, ap, ap₂, ◌∙◌, Bool, true, false, ◌||◌, List, [], ◌∷◌, ◌++◌, map, arith, eqb, length, get_or, take, drop, set, length-drop, drop-cons, take-suc-set, length-take-le}
 use Rattle.std.proofs.Math.Seq.{drop-set-add}
-use Rattle.std.specs.List.{list_any}
 use Rattle.stored.specs.Choice.{pick, some}
 use Rattle.states.specs.Machinery.Rows.{prints_at}
 use Rattle.comparing.specs.Machinery.Adding.{adding, adding_rows}
@@ -30,21 +29,6 @@ prints-more words from to print low room =
 pub prints-length : (words : List ℕ) (from to : ℕ) → from ≤ to → prints_at + to ≤ length words → length (prints_between words from to) ≡ to - from
 prints-length words from to low room =
     length-take-le (to - from) (drop (prints_at + from) words) (omega (arith, length-drop (prints_at + from) words))
-
--- a footprint joins those from one bound to another by the library's test
-contained : (prints : List ℕ) (print : ℕ) → list_any (λ x. eqb x print) prints ≡ some (λ x. eqb x print) prints
-contained [] print = refl
-contained (x ∷ prints) print = ap (λ (t : Bool). eqb x print || t) (contained prints print)
-
-pub add-tested : (words : List ℕ) (from to print : ℕ) (found t : Bool)
-    → found ≡ list_any (λ x. eqb x print) (take ((prints_at + to) - (prints_at + from)) (drop (prints_at + from) words)) → found ≡ t
-    → pick t (prints_between words from to) (prints_between words from to ++ (print ∷ [])) ≡ add_print (prints_between words from to) print
-add-tested words from to print found t is e =
-    ap (λ (u : Bool). pick u (prints_between words from to) (prints_between words from to ++ (print ∷ [])))
-    (sym e
-    ∙ is
-    ∙ ap (λ (n : ℕ). list_any (λ x. eqb x print) (take n (drop (prints_at + from) words))) {x = (prints_at + to) - (prints_at + from)} {y = to - from} (omega arith)
-    ∙ contained (prints_between words from to) print)
 
 -- one more footprint of what was found
 module _ (print : ℕ → ℕ) where

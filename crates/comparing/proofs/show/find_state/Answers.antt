@@ -9,12 +9,6 @@ use Rattle.comparing.proofs.survey.Exploring.{string-reaches}
 use Rattle.comparing.proofs.show.FirstFound.{none-next}
 use Rattle.comparing.proofs.show.find_state.Goals as goal
 
-pub loop-i-init : goal.loop-i-init
-loop-i-init c = λ j low high. absurd (omega arith)
-
-pub row_at-row-requires : goal.row_at-row-requires
-row_at-row-requires c = omega (arith, c.requires.0.explored.few, c.requires.2)
-
 pub state_print-requires : goal.state_print-requires
 state_print-requires c =
     let a = c.args in
@@ -44,8 +38,3 @@ loop-i-preserved c =
     let reached = (string-reaches (codes_of (values_in a.column (rows_of a.tables.first.now ++ rows_of a.tables.second.now))) a.words.now a.states _ c.requires.0.explored l.i c.loop-i-test.true).0 ∙ sym c.row_at-row.ensures in
     none-next (λ j. print_of (rows_of a.tables.first.now) (rows_of a.tables.second.now) a.column (text (string_of a.words.now j)) ≡ a.print) a.from l.i l.invariant
     (λ shown. c.if-state_print-print.false (c.state_print.ensures (string_of a.words.now l.i) reached ∙ shown))
-
-pub returns : goal.returns
-returns c =
-    let l = c.loop-i in
-    λ j low high. l.invariant j low (omega arith)

@@ -1,15 +1,12 @@
-use Rattle.std.proofs.Common.{ℕ, ◌^◌, ◌≡◌, sym, ◌∙◌, ap, subst, ◌++◌, arith}
+use Rattle.std.proofs.Common.{ℕ, sym, ◌∙◌, ap, subst, ◌++◌, arith}
 use Rattle.judging.specs.Requests.{is_present}
 use Rattle.judging.specs.Judging.{rows_of}
 use Rattle.columns.specs.Values.{networks_in}
 use Rattle.columns.proofs.Edges.{edge-high, next-edge-above}
 use Rattle.comparing.specs.Compared.{address_in}
 use Rattle.comparing.specs.Machinery.ShownValues.{NoneBelow}
-use Rattle.comparing.proofs.show.FirstFound.{absence-found, address-found, none_found, none_more}
+use Rattle.comparing.proofs.show.FirstFound.{absence-found, address-found, none_more}
 use Rattle.comparing.proofs.show.show_address.Goals as goal
-
-pub absent_print-requires : goal.absent_print-requires
-absent_print-requires c = let read = c.args.tables.both_read in (read.few, read.more, read.rows)
 
 pub returns-then-absent_print-print : goal.returns-then-absent_print-print
 returns-then-absent_print-print c =
@@ -18,12 +15,6 @@ returns-then-absent_print-print c =
     let e = absence-found (rows_of a.tables.first.now) (rows_of a.tables.second.now) 7 a.print (omega arith) (sym c.absent_print.ensures ∙ c.if-absent_print-print.true) v w in
     (ap is_present (sym e), ap address_in (sym e))
 
-pub loop-x-init : goal.loop-x-init
-loop-x-init c = (omega arith, λ h. c.if-absent_print-print.false (c.absent_print.ensures ∙ h), λ m low. absurd (omega arith))
-
-pub address_print-requires : goal.address_print-requires
-address_print-requires c = (c.requires.0, c.requires.1)
-
 pub returns-then-address_print-print : goal.returns-then-address_print-print
 returns-then-address_print-print c =
     let a = c.args in
@@ -31,9 +22,6 @@ returns-then-address_print-print c =
     λ v w.
     let e = address-found (rows_of a.tables.first.now) (rows_of a.tables.second.now) a.print l.x c.loop-x-test.true l.invariant.2 (sym c.address_print.ensures ∙ c.if-address_print-print.true) l.invariant.1 v w in
     (ap is_present (sym e), ap address_in (sym e))
-
-pub next_edge-x-requires : goal.next_edge-x-requires
-next_edge-x-requires c = (c.args.tables.both_read.one, c.args.tables.both_read.two, c.requires.0, c.requires.1)
 
 pub loop-x-smaller : goal.loop-x-smaller
 loop-x-smaller c =
@@ -52,10 +40,3 @@ loop-x-preserved c =
       subst (λ (x : ℕ). NoneBelow (rows_of a.tables.first.now) (rows_of a.tables.second.now) a.print x) (sym edge)
           (none_more (rows_of a.tables.first.now) (rows_of a.tables.second.now) a.print l.x l.invariant.2 (λ shown. c.if-address_print-print.false (c.address_print.ensures ∙ shown))),
     )
-
-pub returns : goal.returns
-returns c =
-    let a = c.args in
-    let l = c.loop-x in
-    let all : l.x ≡ 2 ^ 32 = omega (arith, l.invariant.0) in
-    λ v w. absurd (none_found (rows_of a.tables.first.now) (rows_of a.tables.second.now) a.print (subst (λ (x : ℕ). NoneBelow (rows_of a.tables.first.now) (rows_of a.tables.second.now) a.print x) all l.invariant.2) l.invariant.1 v w)

@@ -13,8 +13,8 @@ show_text-principal-requires c = (
   c.requires.0 0 (omega arith),
   c.requires.1 0 (omega arith),
   omega arith,
-  omega (arith, c.requires.2),
-  omega (arith, c.requires.3, c.clear_values.auto.values),
+  omega arith,
+  omega arith,
   (column_of c.requires.4.0 0, first-at (rows_of c.args.tables.first.now) (rows_of c.args.tables.second.now) c.args.prints c.requires.4.0 c.requires.4.1 0 (omega arith)),
 )
 
@@ -23,8 +23,8 @@ show_text-action-requires c = (
   c.requires.0 1 (omega arith),
   c.requires.1 1 (omega arith),
   omega arith,
-  omega (arith, c.requires.2, c.show_text-principal.auto.words),
-  omega (arith, c.requires.3, c.clear_values.auto.values, c.show_text-principal.auto.values),
+  omega arith,
+  omega arith,
   (column_of c.requires.4.0 1, first-at (rows_of c.args.tables.first.now) (rows_of c.args.tables.second.now) c.args.prints c.requires.4.0 c.requires.4.1 1 (omega arith)),
 )
 
@@ -33,8 +33,8 @@ show_text-resource-requires c = (
   c.requires.0 2 (omega arith),
   c.requires.1 2 (omega arith),
   omega arith,
-  omega (arith, c.requires.2, c.show_text-principal.auto.words, c.show_text-action.auto.words),
-  omega (arith, c.requires.3, c.clear_values.auto.values, c.show_text-principal.auto.values, c.show_text-action.auto.values),
+  omega arith,
+  omega arith,
   (column_of c.requires.4.0 2, first-at (rows_of c.args.tables.first.now) (rows_of c.args.tables.second.now) c.args.prints c.requires.4.0 c.requires.4.1 2 (omega arith)),
 )
 
@@ -44,8 +44,8 @@ show_key-vpc-requires c = (
   c.requires.1 3 (omega arith),
   omega arith,
   omega arith,
-  omega (arith, c.requires.2, c.show_text-principal.auto.words, c.show_text-action.auto.words, c.show_text-resource.auto.words),
-  omega (arith, c.requires.3, c.clear_values.auto.values, c.show_text-principal.auto.values, c.show_text-action.auto.values, c.show_text-resource.auto.values),
+  omega arith,
+  omega arith,
   (column_of c.requires.4.0 3, first-at (rows_of c.args.tables.first.now) (rows_of c.args.tables.second.now) c.args.prints c.requires.4.0 c.requires.4.1 3 (omega arith)),
 )
 
@@ -55,8 +55,8 @@ show_key-prefix-requires c = (
   c.requires.1 4 (omega arith),
   omega arith,
   omega arith,
-  omega (arith, c.requires.2, c.show_text-principal.auto.words, c.show_text-action.auto.words, c.show_text-resource.auto.words, c.show_key-vpc.auto.words),
-  omega (arith, c.requires.3, c.clear_values.auto.values, c.show_text-principal.auto.values, c.show_text-action.auto.values, c.show_text-resource.auto.values, c.show_key-vpc.auto.values),
+  omega arith,
+  omega arith,
   (column_of c.requires.4.0 4, first-at (rows_of c.args.tables.first.now) (rows_of c.args.tables.second.now) c.args.prints c.requires.4.0 c.requires.4.1 4 (omega arith)),
 )
 
@@ -66,8 +66,8 @@ show_key-vpce-requires c = (
   c.requires.1 5 (omega arith),
   omega arith,
   omega arith,
-  omega (arith, c.requires.2, c.show_text-principal.auto.words, c.show_text-action.auto.words, c.show_text-resource.auto.words, c.show_key-vpc.auto.words, c.show_key-prefix.auto.words),
-  omega (arith, c.requires.3, c.clear_values.auto.values, c.show_text-principal.auto.values, c.show_text-action.auto.values, c.show_text-resource.auto.values, c.show_key-vpc.auto.values, c.show_key-prefix.auto.values),
+  omega arith,
+  omega arith,
   (column_of c.requires.4.0 5, first-at (rows_of c.args.tables.first.now) (rows_of c.args.tables.second.now) c.args.prints c.requires.4.0 c.requires.4.1 5 (omega arith)),
 )
 
@@ -77,8 +77,8 @@ show_key-referer-requires c = (
   c.requires.1 6 (omega arith),
   omega arith,
   omega arith,
-  omega (arith, c.requires.2, c.show_text-principal.auto.words, c.show_text-action.auto.words, c.show_text-resource.auto.words, c.show_key-vpc.auto.words, c.show_key-prefix.auto.words, c.show_key-vpce.auto.words),
-  omega (arith, c.requires.3, c.clear_values.auto.values, c.show_text-principal.auto.values, c.show_text-action.auto.values, c.show_text-resource.auto.values, c.show_key-vpc.auto.values, c.show_key-prefix.auto.values, c.show_key-vpce.auto.values),
+  omega arith,
+  omega arith,
   (column_of c.requires.4.0 6, first-at (rows_of c.args.tables.first.now) (rows_of c.args.tables.second.now) c.args.prints c.requires.4.0 c.requires.4.1 6 (omega arith)),
 )
 
@@ -87,18 +87,6 @@ lay_plans-plans-requires c =
     let a = c.args in
     let kept = c.show_key-referer.auto.words ∙ c.show_key-vpce.auto.words ∙ c.show_key-prefix.auto.words ∙ c.show_key-vpc.auto.words ∙ c.show_text-resource.auto.words ∙ c.show_text-action.auto.words ∙ c.show_text-principal.auto.words in
     (addresses-fit a.tables.first.now a.tables.second.now c.args.tables.both_read.one c.args.tables.both_read.two c.args.tables.both_read.few c.args.tables.both_read.more c.requires.5, omega arith, omega (arith, c.requires.2, kept))
-
-pub show_address-address-requires : goal.show_address-address-requires
-show_address-address-requires c =
-    let laid = c.lay_plans-plans.ensures in
-    let kept = c.show_key-referer.auto.words ∙ c.show_key-vpce.auto.words ∙ c.show_key-prefix.auto.words ∙ c.show_key-vpc.auto.words ∙ c.show_text-resource.auto.words ∙ c.show_text-action.auto.words ∙ c.show_text-principal.auto.words in
-    (laid.has, omega (arith, c.requires.2, laid.same, kept))
-
-pub shape_of-words : goal.shape_of-words
-shape_of-words c = c.lay_plans-plans.ensures.same ∙ c.show_key-referer.auto.words ∙ c.show_key-vpce.auto.words ∙ c.show_key-prefix.auto.words ∙ c.show_key-vpc.auto.words ∙ c.show_text-resource.auto.words ∙ c.show_text-action.auto.words ∙ c.show_text-principal.auto.words
-
-pub shape_of-values : goal.shape_of-values
-shape_of-values c = c.show_key-referer.auto.values ∙ c.show_key-vpce.auto.values ∙ c.show_key-prefix.auto.values ∙ c.show_key-vpc.auto.values ∙ c.show_text-resource.auto.values ∙ c.show_text-action.auto.values ∙ c.show_text-principal.auto.values ∙ c.clear_values.auto.values
 
 pub returns : goal.returns
 returns c =

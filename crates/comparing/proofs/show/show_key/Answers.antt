@@ -1,18 +1,15 @@
 -- Where absence shows the footprint, that is the first value; else the string of the lowest state that shows it.
-use Rattle.std.proofs.Common.{refl, sym, ◌∙◌, subst, ℕ, true, ◌++◌, arith, Some, None}
+use Rattle.std.proofs.Common.{refl, sym, ◌∙◌, subst, ℕ, true, ◌++◌, arith, None}
 use Rattle.judging.specs.Requests.{Value}
 use Rattle.judging.specs.Judging.{rows_of}
 use Rattle.columns.specs.Machinery.Plan.{HasPlans}
 use Rattle.columns.proofs.PlansLaid.{texts-fit}
 use Rattle.columns.proofs.Widths.{sum_both}
 use Rattle.comparing.specs.Machinery.ShownValues.{LaidValue}
-use Rattle.comparing.proofs.show.FirstFound.{codes-few, has-string, few-found, starts-optional, string-behind-absence, absence-found, lays-value}
+use Rattle.comparing.proofs.show.FirstFound.{codes-few, has-string, few-found, starts-optional, string-behind-absence, absence-found}
 use Rattle.comparing.proofs.survey.ColumnSurveyed.{found-states}
 use Rattle.comparing.proofs.survey.StatesKept.{states-kept}
 use Rattle.comparing.proofs.show.show_key.Goals as goal
-
-pub absent_print-requires : goal.absent_print-requires
-absent_print-requires c = (c.args.tables.both_read.few, c.args.tables.both_read.more, c.args.tables.both_read.rows)
 
 pub returns-then-absent_print-print : goal.returns-then-absent_print-print
 returns-then-absent_print-print c =
@@ -50,8 +47,3 @@ show_state-requires c =
       has-string (rows_of a.tables.first.now) (rows_of a.tables.second.now) a.column a.print (string-behind-absence (rows_of a.tables.first.now) (rows_of a.tables.second.now) a.column a.print c.requires.2 c.requires.3 (λ shown. c.if-absent_print-print.false (c.absent_print.ensures ∙ shown))) c.requires.6,
       subst (λ (n : ℕ). HasPlans a.tables.first.now a.tables.second.now a.column true n c.lay_plans-plans.new.words c.lay_plans-plans.result) found.mine c.lay_plans-plans.ensures.has,
     )
-
-pub returns : goal.returns
-returns c =
-    let a = c.args in
-    lays-value (rows_of a.tables.first.now) (rows_of a.tables.second.now) a.column a.print a.values.now c.show_state.new.values (Some c.show_state.result) (string-behind-absence (rows_of a.tables.first.now) (rows_of a.tables.second.now) a.column a.print c.requires.2 c.requires.3 (λ shown. c.if-absent_print-print.false (c.absent_print.ensures ∙ shown))) c.show_state.ensures

@@ -7,7 +7,7 @@ use Rattle.columns.specs.Machinery.Plan.{HasPlans}
 use Rattle.columns.proofs.PlansLaid.{texts-fit}
 use Rattle.columns.proofs.Widths.{sum_both}
 use Rattle.comparing.specs.Machinery.ShownValues.{LaidValue}
-use Rattle.comparing.proofs.show.FirstFound.{codes-few, has-string, few-found, starts-needed, any_found, string-needed, lays-value}
+use Rattle.comparing.proofs.show.FirstFound.{codes-few, has-string, few-found, starts-needed, any_found, string-needed}
 use Rattle.comparing.proofs.survey.NoValues.{no-values}
 use Rattle.comparing.proofs.survey.ColumnSurveyed.{found-states}
 use Rattle.comparing.proofs.survey.StatesKept.{states-kept}
@@ -49,8 +49,3 @@ show_state-requires c =
       has-string (rows_of a.tables.first.now) (rows_of a.tables.second.now) a.column a.print (string-needed (rows_of a.tables.first.now) (rows_of a.tables.second.now) a.column a.print c.requires.2) c.requires.5,
       subst (λ (n : ℕ). HasPlans a.tables.first.now a.tables.second.now a.column true n c.lay_plans-plans.new.words c.lay_plans-plans.result) found.mine c.lay_plans-plans.ensures.has,
     )
-
-pub returns : goal.returns
-returns c =
-    let a = c.args in
-    lays-value (rows_of a.tables.first.now) (rows_of a.tables.second.now) a.column a.print a.values.now c.show_state.new.values (Some c.show_state.result) (string-needed (rows_of a.tables.first.now) (rows_of a.tables.second.now) a.column a.print c.requires.2) c.show_state.ensures

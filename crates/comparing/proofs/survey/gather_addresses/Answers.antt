@@ -8,14 +8,6 @@ use Rattle.columns.proofs.PlansLaid.{plans-stay}
 use Rattle.comparing.proofs.survey.AddressesUpto.{AddressesUpto, upto-room, upto-begins, upto-on, upto-ends}
 use Rattle.comparing.proofs.survey.gather_addresses.Goals as goal
 
-pub absent_print-absent-requires : goal.absent_print-absent-requires
-absent_print-absent-requires c =
-    (c.args.tables.both_read.few, c.args.tables.both_read.more, c.args.tables.both_read.rows)
-
-pub add_print-to-requires : goal.add_print-to-requires
-add_print-to-requires c =
-    (omega arith, omega (arith, c.requires.1.low, c.requires.1.room))
-
 pub loop-x-init : goal.loop-x-init
 loop-x-init c =
     let a = c.args in (
@@ -92,9 +84,6 @@ loop-x-preserved c =
           ))
           (omega arith) c.address_print-print.ensures l.invariant.4 c.add_print-to-in-loop-x.ensures),
     )
-
-pub shape_of-words : goal.shape_of-words
-shape_of-words c = c.loop-x.invariant.2 ∙ c.add_print-to.ensures.same
 
 pub returns : goal.returns
 returns c =

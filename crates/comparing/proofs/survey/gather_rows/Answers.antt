@@ -1,4 +1,4 @@
-use Rattle.std.proofs.Common.{ℕ, ◌+◌, ◌-◌, ◌<◌, ◌≡◌, refl, sym, ap, ◌∙◌, Bool, ◌++◌, map, arith, ne_eqb}
+use Rattle.std.proofs.Common.{◌+◌, ◌<◌, sym, ap, ◌∙◌, Bool, ◌++◌, arith, ne_eqb}
 use Rattle.stored.specs.Choice.{pick}
 use Rattle.matching.specs.Machinery.Codes.{codes_of}
 use Rattle.judging.specs.Requests.{absent, text}
@@ -9,34 +9,11 @@ use Rattle.states.proofs.Parts.{front_kept}
 use Rattle.columns.specs.Values.{values_in}
 use Rattle.columns.proofs.PlansLaid.{prepared-stays}
 use Rattle.comparing.specs.Machinery.Product.{print_of}
-use Rattle.comparing.specs.Machinery.Adding.{adding_rows}
 use Rattle.comparing.specs.Machinery.Survey.{print_at}
 use Rattle.comparing.proofs.survey.AddingPrints.{row-added}
 use Rattle.comparing.proofs.survey.StatesKept.{row_stays}
 use Rattle.comparing.proofs.survey.Exploring.{string-reaches}
 use Rattle.comparing.proofs.survey.gather_rows.Goals as goal
-
-pub loop-i-init : goal.loop-i-init
-loop-i-init c =
-    let a = c.args in (
-      omega arith,
-      omega arith,
-      refl,
-      refl,
-      λ found h.
-          h
-          ∙ ap
-          (λ (n : ℕ).
-          map (print_at (rows_of a.tables.first.now) (rows_of a.tables.second.now) a.column a.words.now)
-          (adding_rows (print_at (rows_of a.tables.first.now) (rows_of a.tables.second.now) a.column a.words.now) found a.row n))
-          {x = 0} {y = a.row - a.row} (omega arith),
-    )
-
-pub row_at-state-requires : goal.row_at-state-requires
-row_at-state-requires c =
-    let few = c.requires.0.explored.few in
-    let room = c.requires.3 in
-    omega arith
 
 pub state_print-print-requires : goal.state_print-print-requires
 state_print-print-requires c =
@@ -55,11 +32,6 @@ state_print-print-requires c =
             ∙ row_stays a.words.now l.words (front_kept l.words a.words.now prints_at codes_at same (omega arith)) l.i (omega arith)),
       ),
     )
-
-pub add_print-to-requires : goal.add_print-to-requires
-add_print-to-requires c =
-    let l = c.loop-i in
-    (omega (arith, c.requires.2, l.invariant.0), omega (arith, c.requires.3, l.invariant.1, l.invariant.2))
 
 pub loop-i-preserved : goal.loop-i-preserved
 loop-i-preserved c =
@@ -83,25 +55,3 @@ loop-i-preserved c =
           row-added (print_at (rows_of a.tables.first.now) (rows_of a.tables.second.now) a.column a.words.now) l.words c.add_print-to.new.words
           a.from l.to c.add_print-to.result a.row l.i c.state_print-print.result found (omega arith) is (l.invariant.4 found e) c.add_print-to.ensures,
     )
-
-pub shape_of-words : goal.shape_of-words
-shape_of-words c = c.loop-i.invariant.2
-
-pub returns : goal.returns
-returns c =
-    let l = c.loop-i in
-    let a = c.args in
-    let all : l.i ≡ a.states = omega arith in
-    record {
-      prints = λ found e.
-          l.invariant.4 found e
-          ∙ ap
-          (λ (i : ℕ).
-          map (print_at (rows_of a.tables.first.now) (rows_of a.tables.second.now) a.column a.words.now)
-          (adding_rows (print_at (rows_of a.tables.first.now) (rows_of a.tables.second.now) a.column a.words.now) found a.row (i - a.row)))
-          all;
-      low = l.invariant.0;
-      high = omega (arith, l.invariant.1);
-      kept = l.invariant.3;
-      same = l.invariant.2;
-    }

@@ -11,14 +11,6 @@ use Rattle.comparing.proofs.survey.Exploring.{string-reaches}
 use Rattle.comparing.proofs.survey.TextsGathered.{gathered_none, gathered-needed, gathered-optional, states-stay}
 use Rattle.comparing.proofs.survey.gather_texts.Goals as goal
 
-pub prints_of-prints-requires : goal.prints_of-prints-requires
-prints_of-prints-requires c =
-    (omega (arith, c.requires.4.order, c.requires.4.within, c.requires.3.room), omega (arith, c.requires.4.within, c.requires.3.room))
-
-pub row_at-state-requires : goal.row_at-state-requires
-row_at-state-requires c =
-    omega (arith, c.requires.3.room)
-
 pub state_print-print-requires : goal.state_print-print-requires
 state_print-print-requires c =
     let a = c.args in (
@@ -28,13 +20,6 @@ state_print-print-requires c =
       (string_of a.words.now 0, (string-reaches (codes_of (values_in a.column (rows_of a.tables.first.now ++ rows_of a.tables.second.now))) a.words.now a.states _ c.requires.0.explored 0 c.requires.0.explored.some).0 ∙ sym c.row_at-state.ensures),
     )
 
-pub add_print-requires : goal.add_print-requires
-add_print-requires c =
-    (omega arith, omega (arith, c.requires.3.low, c.requires.3.room))
-
-pub shape_of-words-then-positions-eq0 : goal.shape_of-words-then-positions-eq0
-shape_of-words-then-positions-eq0 c = c.add_print.ensures.same
-
 pub returns-then-positions-eq0 : goal.returns-then-positions-eq0
 returns-then-positions-eq0 c =
     let a = c.args in
@@ -42,26 +27,10 @@ returns-then-positions-eq0 c =
     c.add_print.new.words c.state_print-print.result c.add_print.result (string_of a.words.now 0) (omega arith) (omega (arith, c.requires.1))
     (c.state_print-print.ensures (string_of a.words.now 0) ((string-reaches (codes_of (values_in a.column (rows_of a.tables.first.now ++ rows_of a.tables.second.now))) a.words.now a.states _ c.requires.0.explored 0 c.requires.0.explored.some).0 ∙ sym c.row_at-state.ensures)) c.add_print.ensures
 
-pub gather_rows-requires : goal.gather_rows-requires
-gather_rows-requires c =
-    let a = c.args in
-    (c.requires.0, omega (arith, c.requires.0.explored.some), omega arith, omega (arith, c.requires.0.explored.few, c.requires.3.low, c.requires.3.room), prepared a.tables.first.now a.tables.second.now a.column a.words.now a.plans c.prints_of-prints.result c.requires.4 c.prints_of-prints.ensures)
-
-pub shape_of-words-then-column-lt3 : goal.shape_of-words-then-column-lt3
-shape_of-words-then-column-lt3 c = c.gather_rows.ensures.same
-
 pub returns-then-column-lt3 : goal.returns-then-column-lt3
 returns-then-column-lt3 c =
     let a = c.args in
     gathered-needed (rows_of a.tables.first.now) (rows_of a.tables.second.now) a.column a.words.now a.states a.from c.requires.0 c.requires.3 c.gather_rows.new.words c.gather_rows.result (omega arith) (omega (arith, c.requires.1)) c.gather_rows.ensures
-
-pub absent_print-absent-requires : goal.absent_print-absent-requires
-absent_print-absent-requires c =
-    (c.args.tables.both_read.few, c.args.tables.both_read.more, c.args.tables.both_read.rows)
-
-pub add_print-start-requires : goal.add_print-start-requires
-add_print-start-requires c =
-    (omega arith, omega (arith, c.requires.3.low, c.requires.3.room))
 
 pub gather_rows-requires-2 : goal.gather_rows-requires-2
 gather_rows-requires-2 c =
@@ -74,9 +43,6 @@ gather_rows-requires-2 c =
           (front_kept c.add_print-start.new.words a.words.now (prints_at + a.from) prints_at c.add_print-start.ensures.kept (omega arith))
           (prepared a.tables.first.now a.tables.second.now a.column a.words.now a.plans c.prints_of-prints.result c.requires.4 c.prints_of-prints.ensures),
     )
-
-pub shape_of-words : goal.shape_of-words
-shape_of-words c = c.gather_rows-2.ensures.same ∙ c.add_print-start.ensures.same
 
 pub returns : goal.returns
 returns c =

@@ -45,16 +45,6 @@ explore-states-requires c =
     (omega (arith, c.requires.0, c.lay_codes-own.ensures.next, c.lay_codes-positions.ensures.next, sum_both a.column (rows_of a.tables.first.now) (rows_of a.tables.second.now)))
     c.lay_taken.ensures (omega (arith, long, all))
 
-pub shape_of-words : goal.shape_of-words
-shape_of-words c =
-    let a = c.args in
-    let size : length c.lay_codes-own.new.codes ≡ 512 = c.lay_codes-own.auto.codes ∙ part_length a.words.now c.requires.1 in
-    let same = with-length a.words.now c.lay_codes-own.new.codes c.requires.1 size in
-    let long : 5976 ≤ length (with_codes a.words.now c.lay_codes-own.new.codes) = omega (arith, c.requires.1, same) in
-    let also : length c.lay_codes-positions.new.codes ≡ 512 = c.lay_codes-positions.auto.codes ∙ part_length (with_codes a.words.now c.lay_codes-own.new.codes) long in
-    let all = with-length (with_codes a.words.now c.lay_codes-own.new.codes) c.lay_codes-positions.new.codes long also in
-    c.explore-states.auto.words ∙ c.lay_taken.auto.words ∙ all ∙ same
-
 pub returns : goal.returns
 returns c =
     let a = c.args in

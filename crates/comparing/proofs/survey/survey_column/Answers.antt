@@ -1,10 +1,10 @@
 -- Column 7 goes by edges; another column by its states, if there are few of them.
-use Rattle.std.proofs.Common.{ℕ, ◌<◌, ◌≡◌, sym, ◌∙◌, subst, true, arith}
+use Rattle.std.proofs.Common.{ℕ, ◌<◌, sym, ◌∙◌, subst, true, arith}
 use Rattle.judging.specs.Judging.{rows_of}
 use Rattle.columns.specs.Machinery.Plan.{HasPlans}
 use Rattle.columns.proofs.PlansLaid.{texts-fit, addresses-fit}
 use Rattle.columns.proofs.Widths.{sum_both}
-use Rattle.comparing.specs.Machinery.Survey.{SurveyedColumn, Gathered}
+use Rattle.comparing.specs.Machinery.Survey.{SurveyedColumn}
 use Rattle.comparing.proofs.survey.ColumnSurveyed.{found-states, found-few, found-many, gathered-behind}
 use Rattle.comparing.proofs.survey.StatesKept.{states-kept}
 use Rattle.comparing.proofs.survey.survey_column.Goals as goal
@@ -13,32 +13,6 @@ pub lay_plans-networks-requires : goal.lay_plans-networks-requires
 lay_plans-networks-requires c =
     let a = c.args in
     (addresses-fit a.tables.first.now a.tables.second.now c.args.tables.both_read.one c.args.tables.both_read.two c.args.tables.both_read.few c.args.tables.both_read.more c.requires.0.networks, omega arith, omega (arith, c.requires.0.room))
-
-pub gather_addresses-requires : goal.gather_addresses-requires
-gather_addresses-requires c =
-    let laid = c.lay_plans-networks.ensures in
-    (c.requires.0.networks, record { low = c.requires.2; room = omega (arith, c.requires.0.room, laid.same) }, laid.has)
-
-pub shape_of-words-then-column-eq-ADDRESSES : goal.shape_of-words-then-column-eq-ADDRESSES
-shape_of-words-then-column-eq-ADDRESSES c = c.gather_addresses.ensures.same ∙ c.lay_plans-networks.ensures.same
-
-pub returns-then-column-eq-ADDRESSES : goal.returns-then-column-eq-ADDRESSES
-returns-then-column-eq-ADDRESSES c =
-    let a = c.args in
-    let seven : a.column ≡ 7 = c.if-column-eq-ADDRESSES.true in (
-      (λ low. absurd (omega arith)),
-      subst (λ (column : ℕ). Gathered (rows_of a.tables.first.now) (rows_of a.tables.second.now) column a.words.now c.gather_addresses.new.words a.from c.gather_addresses.result)
-          (sym seven)
-          (gathered-behind (rows_of a.tables.first.now) (rows_of a.tables.second.now) 7 a.words.now c.lay_plans-networks.new.words c.gather_addresses.new.words a.from c.gather_addresses.result c.lay_plans-networks.ensures.kept c.lay_plans-networks.ensures.same c.gather_addresses.ensures),
-    )
-
-pub states_of-found-requires : goal.states_of-found-requires
-states_of-found-requires c =
-    let a = c.args in
-    (c.requires.0.narrow a.column (omega arith), omega (arith, c.requires.0.room))
-
-pub shape_of-words-in_err-states : goal.shape_of-words-in_err-states
-shape_of-words-in_err-states c = c.states_of-found.ensures.same
 
 pub returns-in_err-states : goal.returns-in_err-states
 returns-in_err-states c =
@@ -68,12 +42,6 @@ gather_texts-requires c =
       record { low = c.requires.2; room = omega (arith, c.requires.0.room, c.states_of-found.ensures.same, c.lay_plans-plans.ensures.same) },
       subst (λ (n : ℕ). HasPlans a.tables.first.now a.tables.second.now a.column true n c.lay_plans-plans.new.words c.lay_plans-plans.result) c.states_of-found.ensures.mine c.lay_plans-plans.ensures.has,
     )
-
-pub shape_of-words : goal.shape_of-words
-shape_of-words c =
-    c.gather_texts.ensures.same
-    ∙ c.lay_plans-plans.ensures.same
-    ∙ c.states_of-found.ensures.same
 
 pub returns : goal.returns
 returns c =

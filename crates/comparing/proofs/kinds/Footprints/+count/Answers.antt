@@ -2,7 +2,7 @@ use Rattle.std.proofs.Common.{◌<◌, sym, ap, ◌∙◌, arith, get_or, length
 use Rattle.comparing.specs.Machinery.Kinds.{total, prints_in}
 use Rattle.comparing.proofs.kinds.GapRows.{count_most}
 use Rattle.comparing.proofs.kinds.Settling.{settled-gaps}
-use Rattle.comparing.proofs.kinds.KindsInWords.{fewer-kinds, gaps_behind, gaps-all, gaps-on, none_left}
+use Rattle.comparing.proofs.kinds.KindsInWords.{fewer-kinds, gaps_behind, gaps-all, gaps-on}
 use Rattle.comparing.proofs.kinds.Footprints.+count.Goals as goal
 use Rattle.comparing.proofs.kinds.Footprints.+count.Goals.{then-is_settled, else-is_settled}
 
@@ -63,11 +63,3 @@ loop-print-preserved t c =
           )
       | else-is_settled w ↦ omega (arith, w.sum-is, w.count-sum.ensures)
     ]
-
-pub returns : goal.returns
-returns t c =
-    let f = c.args.self.now in
-    let none =
-    ap (total (gaps_behind f.sides f.words.now f.bounds c.args.column c.args.rows))
-    (none_left c.column_prints-print-items.result.now c.loop-print.print-index c.loop-print-test.false) in
-    omega arith

@@ -1,10 +1,7 @@
-use Rattle.std.proofs.Common.{◌<◌, refl}
+use Rattle.std.proofs.Common.{◌<◌}
 use Rattle.comparing.proofs.kinds.KindsInWords.{along-on}
-use Rattle.comparing.proofs.kinds.GapPrints.{laid_on, laid_done, along-end, along-none}
+use Rattle.comparing.proofs.kinds.GapPrints.{laid_on, laid_done, along-none}
 use Rattle.comparing.proofs.kinds.Footprints.gap_prints.Goals as goal
-
-pub loop-column-init : goal.loop-column-init
-loop-column-init c = (c.requires, record { size = refl; zeros = refl; joined = refl })
 
 pub returns-in_default : goal.returns-in_default
 returns-in_default c =
@@ -22,9 +19,3 @@ loop-column-preserved c =
       laid_on low now.invariant.1
           (along-on f.words.now f.bounds now.column low f.sides now.rows now.left c.in-Some.step c.in-Some.ensures.found),
     )
-
-pub returns : goal.returns
-returns c =
-    let f = c.args.self.now in
-    let now = c.loop-column in
-    laid_done now.invariant.1 (along-end f.sides f.words.now f.bounds now.column now.rows now.left c.loop-column-test.false)

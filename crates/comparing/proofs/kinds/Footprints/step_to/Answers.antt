@@ -1,6 +1,5 @@
 use Rattle.std.proofs.Common.{◌-◌, ◌+◌, ℕ, sym, ap, ◌∙◌, arith, drop, length}
-use Rattle.comparing.specs.declared.kinds.Step.{Step}
-use Rattle.comparing.proofs.kinds.KindsInWords.{fewer-kinds, gaps_behind, step_in, step-all, step-here, step-on, none_left}
+use Rattle.comparing.proofs.kinds.KindsInWords.{fewer-kinds, gaps_behind, step_in, step-all, step-here, step-on}
 use Rattle.comparing.proofs.kinds.Footprints.step_to.Goals as goal
 
 pub loop-print-init : goal.loop-print-init
@@ -40,12 +39,3 @@ loop-print-preserved c =
     ∙ sym (step-on (gaps_behind f.sides f.words.now f.bounds c.args.column c.args.rows) items.result.now now.print-index (omega arith) now.left
     (omega (arith, c.count-here.ensures)))
     ∙ now.invariant
-
-pub returns : goal.returns
-returns c =
-    let f = c.args.self.now in
-    let now = c.loop-print in
-    let none =
-    ap (step_in (gaps_behind f.sides f.words.now f.bounds c.args.column c.args.rows) now.left)
-    (none_left c.column_prints-print-items.result.now now.print-index c.loop-print-test.false) in
-    record { found = ap (λ (s : Step). s.print) (sym now.invariant ∙ none); few = tt }
