@@ -140,6 +140,7 @@ impl<'a> Iterator for Contents<'a> {
 }
 
 /// The sum of (length plus 1) over the values of a column.
+// stays: no plainer as a type of a table that reads, here and in the two below: `Tables` has this of both its tables already.
 pub fn positions_in(table: &[u8], column: usize) -> usize
     requires { Accepted (entries_of table.now) }
     ensures { result ≡ sum_of (values_in column (rows_of table.now)) }
