@@ -1,5 +1,6 @@
 -- A string compared with bytes, one after the other.
-use Rattle.std.proofs.Common.{Option, Some, None, is_some, not, ℕ, ◌+◌, ◌≤◌, ◌<◌, ◌≡◌, refl, Bool, true, false, List, ◌∷◌, length, get_or, drop, drop_of_length-le, drop-cons, add-one, eq-eqb, ne_eqb}
+use Rattle.std.proofs.Common.{Option, Some, None, is_some, not, ℕ, ◌+◌, ◌≤◌, ◌<◌, ◌≡◌, refl, Bool, true, false, List, ◌∷◌, length, get_or, drop, drop_of_length-le, eq-eqb, ne_eqb}
+use Rattle.std.proofs.lemmas.List.{drop_more}
 use Rattle.json_text.specs.Choice.{same_bytes}
 use Rattle.json_text.specs.Machinery.Pieces.{piece_of, content_of}
 use Rattle.json_text.specs.declared.pieces.Piece.{Piece}
@@ -7,7 +8,7 @@ use Rattle.json_text.proofs.Choosing.{never}
 use Rattle.json_text.proofs.Contents.{content-closed, content-next}
 
 pub left : (xs : List ℕ) (i : ℕ) → i < length xs → drop i xs ≡ get_or xs i 0 ∷ drop (i + 1) xs
-left xs i h = rw (add-one, drop-cons xs i 0)
+left xs i h = drop_more xs i 0 h
 
 pub goes_on_lem : (s name : List ℕ) (i : ℕ) (x : Piece) → i < length name → piece_of s ≡ Some x → x.byte ≡ get_or name i 0
     → same_bytes (content_of s) (drop i name) ≡ same_bytes (content_of (drop x.wide s)) (drop (i + 1) name)

@@ -1,5 +1,6 @@
 -- A string's bytes, read one after the other, are those that the grammar says.
 use Rattle.std.proofs.Common.{Option, Some, None, ℕ, zero, suc, ◌+◌, ◌*◌, ◌%◌, ◌≤◌, ◌≡◌, refl, ap, Bool, true, false, not, ◌||◌, List, [], ◌∷◌, eqb, length, get_or, drop, length-drop, arith, eqb-true, ne_eqb}
+use Rattle.std.proofs.lemmas.Bool.{not-true}
 use Rattle.json_text.specs.Bytes.{within, is_simple, is_plain, is_tail, hex_of}
 use Rattle.json_text.specs.Grammar.{Characters}
 use Rattle.json_text.proofs.Choosing.{never, choose, ranged, both_left, both_right}
@@ -10,14 +11,10 @@ use Rattle.json_text.specs.declared.pieces.Piece.{Piece}
 wide-piece : (a : ℕ) (s : List ℕ) → 0x80 ≤ a → piece_of (a ∷ s) ≡ Some (piece a 1)
 wide-piece a s h = rw (ne_eqb a 0x22 (omega arith), ne_eqb a 0x5C (omega arith))
 
-not-eq : (b : Bool) → not b ≡ true → b ≡ false
-not-eq true e = never (cc)
-not-eq false e = refl
-
 plain-piece : (a : ℕ) (s : List ℕ) → is_plain a ≡ true → piece_of (a ∷ s) ≡ Some (piece a 1)
 plain-piece a s e =
     let f = both_right (within 0x20 0x7F a) _ e in
-    rw (not-eq (eqb a 0x22) (both_left _ _ f), not-eq (eqb a 0x5C) (both_right (not (eqb a 0x22)) _ f))
+    rw (not-true (eqb a 0x22) (both_left _ _ f), not-true (eqb a 0x5C) (both_right (not (eqb a 0x22)) _ f))
 
 simple-code : (a : ℕ) → is_simple a ≡ true → eqb a 0x75 ≡ false
 simple-code a e = go (eqb a 0x22) refl (eqb a 0x5C) refl (eqb a 0x2F) refl e

@@ -1,8 +1,7 @@
 -- Runs of bytes that leave the machine where it is: where they end, and that they change neither the tokens nor the fault.
-use Rattle.std.proofs.Common.{Option, ℕ, suc, ◌+◌, ◌-◌, ◌≤◌, ◌≡◌, refl, ◌∙◌, ap, Bool, true, false, List, [], ◌∷◌, length, take, drop, length-drop, arith}
+use Rattle.std.proofs.Common.{Option, ℕ, suc, ◌+◌, ◌-◌, ◌≡◌, refl, ◌∙◌, ap, Bool, true, false, List, [], ◌∷◌, length, take, drop, length-drop, arith}
 use Rattle.std.proofs.lemmas.List.{drop-drop, take_all}
 use Rattle.std.specs.List.{prefix_len}
-use Rattle.std.proofs.lemmas.List.Sums.{prefix_len-le-length}
 use Rattle.json_text.specs.Bytes.{is_blank, is_plain}
 use Rattle.json_text.specs.Grammar.{Part}
 use Rattle.json_text.specs.Machinery.Machine.{step_of}
@@ -15,30 +14,6 @@ use Rattle.json_text.specs.declared.machine.Phase.TheVariants as P
 use Rattle.json_text.specs.declared.strings.Inside.TheVariants as I
 use Rattle.json_text.proofs.Complete.{phase_of}
 use Rattle.json_text.proofs.Tokenizing.{blank-stays}
-
--- a run is no longer than the list
-pub run-within : (p : Phase) (s : List ℕ) → run_of p s ≤ length s
-run-within P.Value s = prefix_len-le-length is_blank s
-run-within P.FirstElement s = prefix_len-le-length is_blank s
-run-within P.FirstMember s = prefix_len-le-length is_blank s
-run-within P.Member s = prefix_len-le-length is_blank s
-run-within P.Colon s = prefix_len-le-length is_blank s
-run-within P.After s = prefix_len-le-length is_blank s
-run-within (P.Text role I.Plain) s = prefix_len-le-length is_plain s
-run-within (P.Text role I.Escape) s = omega arith
-run-within (P.Text role I.Code) s = omega arith
-run-within (P.Text role I.Zero) s = omega arith
-run-within (P.Text role I.High) s = omega arith
-run-within (P.Text role I.Low) s = omega arith
-run-within (P.Text role I.One) s = omega arith
-run-within (P.Text role I.Two) s = omega arith
-run-within (P.Text role I.Three) s = omega arith
-run-within (P.Text role I.AfterE0) s = omega arith
-run-within (P.Text role I.AfterED) s = omega arith
-run-within (P.Text role I.AfterF0) s = omega arith
-run-within (P.Text role I.AfterF4) s = omega arith
-run-within (P.Number n) s = omega arith
-run-within (P.Word d) s = omega arith
 
 -- what one byte of a class leaves as it was, a run of them does
 run-over {ℓ} : {X : Type ℓ} (f : ℕ → Bool) (g : ℕ → List ℕ → X) → ((n b : ℕ) (s : List ℕ) → f b ≡ true → g n (b ∷ s) ≡ g (n + 1) s)

@@ -17,6 +17,9 @@ use stored::limits::{MOST_LENGTH, MOST_VALUES};
 use stored::machine::State;
 use stored::writer::{Writer, would_write, write};
 
+// Room for a value and one byte more.
+const ROOM: usize = 129;
+
 // A number of statements in one byte: over 255 they are refused as 255 are.
 fn in_byte(count: usize) -> u8
     ensures { result ≡ at_most_255 count }
@@ -40,9 +43,8 @@ fn network_item(
     text: &[u8],
     state: State,
     place: usize,
-    bytes: &mut [u8],
+    bytes: &mut [u8; ROOM],
 ) -> Result<(Item, usize), Reason>
-    requires { length bytes.old ≡ 129 }
     ensures { Asks state (wish_of text.now W.Network place) bytes.new result }
 {
     let from = advance(text, place, 1);
@@ -53,8 +55,7 @@ fn network_item(
 }
 
 // The value that a string says. One byte more than a value may have is enough to see that it is too long.
-fn value_item(text: &[u8], place: usize, bytes: &mut [u8]) -> (Item, usize)
-    requires { length bytes.old ≡ 129 }
+fn value_item(text: &[u8], place: usize, bytes: &mut [u8; ROOM]) -> (Item, usize)
     ensures { (s : State) → Asks s (wish_of text.now W.Value place) bytes.new (Ok result) }
 {
     let from = advance(text, place, 1);
@@ -67,9 +68,8 @@ fn item_of(
     state: State,
     wish: Wish,
     place: usize,
-    bytes: &mut [u8],
+    bytes: &mut [u8; ROOM],
 ) -> Result<(Item, usize), Reason>
-    requires { length bytes.old ≡ 129 }
     ensures { Asks state (wish_of text.now wish place) bytes.new result }
 {
     match wish {
@@ -94,7 +94,7 @@ pub fn try_wish(
 ) -> Result<(State, usize), Reason>
     ensures { as_would result ≡ wish_would state (wish_of text.now wish place) }
 {
-    let mut bytes = [0u8; 129];
+    let mut bytes = [0u8; ROOM];
     let (item, size) = item_of(text, state, wish, place, &mut bytes)?;
     would_write(state, item, &bytes[..size])
 }
@@ -110,7 +110,7 @@ pub fn write_wish(
     ensures answer { as_written result ≡ wish_writing writer (wish_of text.now wish place) (length buffer.old) }
     ensures laid { buffer.new ≡ buffer_after writer.at (wish_record (wish_of text.now wish place)) buffer.old (as_written result) }
 {
-    let mut bytes = [0u8; 129];
+    let mut bytes = [0u8; ROOM];
     match item_of(text, writer.state, wish, place, &mut bytes) {
         Ok((item, size)) => write(writer, item, &bytes[..size], buffer),
         Err(reason) => {

