@@ -1,3 +1,4 @@
 -- What the proofs of several functions share.
 mod OneByOne
 mod Scanning
+pub mod OneThroughout

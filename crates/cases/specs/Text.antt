@@ -16,10 +16,15 @@ abbrev pub stand_at : List ℕ → ℕ → List ℕ → Bool
 stand_at text at [] = true
 stand_at text at (b ∷ bs) = eqb (get_or text at 0) b && stand_at text (at + 1) bs
 
+-- every number of the list is this one
+abbrev pub all_are : ℕ → List ℕ → Bool
+all_are one [] = true
+all_are one (n ∷ ns) = eqb n one && all_are one ns
+
 -- every element of the list is this one, by a test of equality
-abbrev pub all_are : {A : Type 0} → (A → A → Bool) → A → List A → Bool
-all_are equal one [] = true
-all_are equal one (x ∷ xs) = equal x one && all_are equal one xs
+abbrev pub all_equal : {A : Type 0} → (A → A → Bool) → A → List A → Bool
+all_equal equal one [] = true
+all_equal equal one (x ∷ xs) = equal x one && all_equal equal one xs
 
 -- a blank, or the end of a line
 abbrev pub is_blank : ℕ → Bool

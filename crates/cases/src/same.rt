@@ -1,10 +1,10 @@
 // Whether lent memory holds one word or one byte throughout.
 ghost use Rattle.std.specs.Prelude.{◌≡◌};
-ghost use Rattle.cases.specs.Text.{all_are};
+ghost use Rattle.cases.specs.Text.{all_equal};
 
 /// All words, or all bytes, are this one.
 pub fn are_all<T: PartialEq + Copy>(items: &[T], one: T) -> bool
-    ensures { result ≡ all_are T.eq one items.now }
+    ensures { result ≡ all_equal T.eq one items.now }
 {
     for item in items {
         if *item != one {
