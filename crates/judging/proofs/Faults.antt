@@ -1,7 +1,8 @@
 -- Refusal 9: the lowest faulty column is found by looking at the columns in turn.
 use Rattle.std.proofs.Common.{ℕ, ◌+◌, ◌<◌, ◌≤◌, ◌≡◌, refl, sym, ◌∙◌, ap, Bool, true, false, List, Some, None, length, drop, drop-cons, ltb, add-one, ltb-false, lt-ltb}
 use Rattle.stored.specs.Choice.{pick}
-use Rattle.judging.specs.Requests.{Value, absent, columns, column_of, is_faulty, first_fault, fault_of}
+use Rattle.judging.specs.Requests.{Value, absent, columns, column_of, is_faulty, first_fault}
+use Rattle.judging.specs.Machinery.Faults.{fault_of}
 
 module _ (column : ℕ) (r : List Value) (there : column < length r) where
   -- a column is faulty, or the columns behind it decide

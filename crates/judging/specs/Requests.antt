@@ -89,7 +89,3 @@ is_faulty column (number n) = ltb column 3
 abbrev pub first_fault : ℕ → List Value → ℕ
 first_fault column [] = column
 first_fault column (v ∷ request) = pick (is_faulty column v) column (first_fault (suc column) request)
-
--- a column that is one of a request's, or none
-abbrev pub fault_of : ℕ → Option ℕ
-fault_of column = pick (ltb column columns) (Some column) None

@@ -93,7 +93,8 @@ pub struct Request<'a> {
 
 impl<'a> Request<'a> {
     ghost use Rattle.std.specs.Prelude.{◌≡◌};
-    ghost use Rattle.judging.specs.Requests.{column_of, columns_of, first_fault, fault_of, value_of};
+    ghost use Rattle.judging.specs.Requests.{column_of, columns_of, first_fault, value_of};
+    ghost use Rattle.judging.specs.Machinery.Faults.{fault_of};
 
     // What a column holds.
     pub(crate) fn value(&self, column: usize) -> Value<'a>

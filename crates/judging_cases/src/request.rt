@@ -5,6 +5,7 @@ use cases::text::{begins_with, part_of};
 use judging::request::Request;
 
 // What a line says of a column: whether it is there, and its text.
+// stays: what may not change is where the columns stand in the room, in which the text of an absent one takes its place too.
 #[derive(Clone, Copy)]
 struct Word<'a> {
     present: bool,
@@ -12,6 +13,7 @@ struct Word<'a> {
 }
 
 // A column whose bytes were laid into the room: whether it is there, and where they stand.
+// stays: what may not change is that an element with `-` in front is what its text says, as one without.
 #[derive(Clone, Copy)]
 struct Column {
     present: bool,
@@ -43,13 +45,13 @@ fn word_of<'a>(line: &'a [u8], name: &[u8]) -> Word<'a> {
                 text,
             };
         }
-        if let Some(absent) = behind_name(word, b"-") {
-            if let Some(text) = behind_name(absent, name) {
-                return Word {
-                    present: false,
-                    text,
-                };
-            }
+        if let Some(absent) = behind_name(word, b"-")
+            && let Some(text) = behind_name(absent, name)
+        {
+            return Word {
+                present: false,
+                text,
+            };
         }
     }
     Word {

@@ -1,5 +1,6 @@
 use Rattle.std.proofs.Common.{sym, ◌∙◌, ap}
-use Rattle.judging.specs.Requests.{columns_of, is_faulty, fault_of}
+use Rattle.judging.specs.Requests.{columns_of, is_faulty}
+use Rattle.judging.specs.Machinery.Faults.{fault_of}
 use Rattle.judging.proofs.Faults.{fault-here, fault-behind, fault_of-some}
 use Rattle.judging.proofs.request.Request.first_fault.Goals as goal
 
