@@ -111,6 +111,23 @@ marks-both before words after p f g h one two parts =
         ∙ one.rows x byte
         ∙ ap (mark_row (taken_laid before x) p) e.1
 
+-- one byte more than those below it
+pub marks-next : (before words : List ℕ) (p b : ℕ) → p < 512 → stars_at ≤ length words → IsByte b → Marks before words p (λ x. ltb x b)
+    → Marks before (marked_at words (607 + b) p) p (λ x. ltb x (b + 1))
+marks-next before words p b low room is m =
+    marks-both before words (marked_at words (607 + b) p) p (λ x. ltb x b) (λ x. eqb x b) (λ x. ltb x (b + 1)) m (marks-byte words p b low room is)
+    (λ x byte. by x (below-or-from x b))
+  where
+    last : (x : ℕ) → b ≤ x → (t : Bool) → eqb x b ≡ t → eqb x b ≡ ltb x (b + 1)
+    last x h true e = e ∙ sym (lt-ltb x (b + 1) (omega (arith, eqb-true x b e)))
+    last x h false e =
+        let more : b < x = lt_of_le-ne h (λ w. eqb-false x b e (sym w)) in
+        e ∙ sym (le-ltb x (b + 1) (omega arith))
+
+    by : (x : ℕ) → (x < b) ⊎ (b ≤ x) → ((ltb x b ≡ false) × (eqb x b ≡ ltb x (b + 1))) ⊎ ((eqb x b ≡ false) × (ltb x b ≡ ltb x (b + 1)))
+    by x (inl h) = inr (ne_eqb x b (λ w. omega arith), lt-ltb x b h ∙ sym (lt-ltb x (b + 1) (omega arith)))
+    by x (inr h) = inl (le-ltb x b h, last x h (eqb x b) refl)
+
 -- of the bytes of a set, one after the other
 
 -- whether x is one of those below a bound

@@ -1,5 +1,5 @@
 -- Rows and keys in the words of a workspace: a row or a key that is laid down is there, and every other one is as it was.
-use Prim.Native.Nat.{ℕ, suc, ◌+◌, ◌-◌, ◌*◌, ◌≤◌, ◌<◌, min}
+use Prim.Native.Nat.{ℕ, zero, suc, ◌+◌, ◌-◌, ◌*◌, ◌/◌, ◌≤◌, ◌<◌, min}
 use mathlib.Core.Path.{◌≡◌, refl, sym, ◌∙◌, ap}
 use mathlib.Core.Bool.{true, false, false≢true}
 use Rattle.std.specs.Prelude.{Option, None, Some}
@@ -9,11 +9,12 @@ use mathlib.Core.Logic.{◌⊎◌, inl, inr}
 use native.Mathlib.Omega.{arith}
 use lib.ListN.{length, get_or, take, drop, set, length-take, length-drop, length-set, length-append}
 use lib.Arith.{lt_of_le-ne}
-use lib.Seq.{sets, sets-eq, length-sets, length-take-le, take_at, drop_at, drop-append-le, get_or-take, get_or-drop, get_or-set_same, get_or-set_other, drop-set-lt, ext_get_or}
+use Rattle.std.specs.Simd.{first_chunks}
+use lib.Seq.{take-take, drop-drop, sets, sets-eq, length-sets, length-take-le, take_at, drop_at, drop-append-le, get_or-take, get_or-drop, get_or-set_same, get_or-set_other, drop-set-lt, ext_get_or}
 use Rattle.states.specs.Machinery.Rows.{most_states, keys_at, codes_at, row_at, key_at}
 use Rattle.states.specs.Machinery.Search.{FirstAt, Untouched}
 use Rattle.states.proofs.Below.{below-or-from}
-use Rattle.states.proofs.Parts.{sets_behind}
+use Rattle.states.proofs.Parts.{part-kept, sets_behind}
 
 -- a run of stores leaves the elements before and behind it
 pub sets-outside : (l vs : List ℕ) (at k : ℕ) → at + length vs ≤ k → get_or (sets l at vs) k 0 ≡ get_or l k 0
@@ -72,6 +73,26 @@ row_kept words i j row eight other =
 -- the words from a place on that is behind the row
 pub behind-kept : (words : List ℕ) (i n : ℕ) (row : List ℕ) → length row ≡ 8 → i * 8 + 8 ≤ n → drop n (sets words (i * 8) row) ≡ drop n words
 behind-kept words i n row eight room = sets_behind words row (i * 8) n (omega arith)
+
+-- the rows of the first words
+
+chunk-at : (k i : ℕ) (words d : List ℕ) → i < k → get_or (first_chunks 8 k words) i d ≡ row_at words i
+chunk-at zero i words d low = absurd (omega arith)
+chunk-at (suc k) zero words d low = refl
+chunk-at (suc k) (suc i) words d low =
+    chunk-at k i (drop 8 words) d (omega arith)
+    ∙ ap (take 8) (drop-drop (i * 8) 8 words ∙ ap (λ (n : ℕ). drop n words) (omega arith))
+
+pub chunks-few : (n i m : ℕ) (words : List ℕ) → n * 8 ≤ length words → m ≡ length (take (n * 8) words) / 8 → i < m → i < n
+chunks-few n i m words room e low = omega (arith, length-take-le (n * 8) words room)
+
+pub row-of_chunks : (n i : ℕ) (words d : List ℕ) {rows : List (List ℕ)} → n * 8 ≤ length words
+    → rows ≡ first_chunks 8 (length (take (n * 8) words) / 8) (take (n * 8) words) → i < n → get_or rows i d ≡ row_at words i
+row-of_chunks n i words d room e low =
+    let count : length (take (n * 8) words) / 8 ≡ n = omega (arith, length-take-le (n * 8) words room) in
+    ap (λ (rows : List (List ℕ)). get_or rows i d) e
+    ∙ chunk-at (length (take (n * 8) words) / 8) i (take (n * 8) words) d (omega arith)
+    ∙ part-kept (take (n * 8) words) words (n * 8) (i * 8) 8 (take-take (n * 8) (n * 8) words (omega arith)) (omega arith)
 
 -- what a search for a row answers: one of the rows, or that none is it
 

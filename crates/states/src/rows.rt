@@ -52,8 +52,9 @@ pub(crate) fn find_row(words: &[u64], n: usize, row: [u64; 8]) -> Option<usize>
 {
     let word = telling_word(row);
     let told = row[word];
-    for i in 0..n {
-        if words[i * 8 + word] == told && is_row(words, i, row) {
+    let (rows, _) = words[..n * 8].as_chunks::<8>();
+    for (i, other) in rows.iter().enumerate() {
+        if other[word] == told && *other == row {
             return Some(i);
         }
     }

@@ -1,12 +1,11 @@
 // Which positions take which byte, laid down once for a column: a row for each byte, the row of the positions behind stars, and the set of
 // the bytes that follow others.
-ghost use Rattle.std.specs.Prelude.{◌≡◌, ◌+◌, ◌*◌, ◌≤◌, ◌<◌, length};
+ghost use Rattle.std.specs.Prelude.{◌≡◌, true, ◌+◌, ◌*◌, ◌≤◌, ◌<◌, length};
 ghost use Rattle.states.specs.Machinery.Rows.{prints_at, stars_at, taken_laid, codes_laid};
-ghost use Rattle.states.specs.Machinery.Bytes.{SetOf};
 ghost use Rattle.states.specs.Machinery.Taken.{marked_at, takes, Marks, RowsLaid, FollowersOf, FollowersSet, LaysTaken};
 
 use crate::bytes::ByteSet;
-use crate::limits::{CODES, FOLLOWERS, STARS, STARS_ROW, TAKEN, TAKEN_ROW};
+use crate::limits::{CODES, FIRST_BYTE, FOLLOWERS, LAST_BYTE, STARS, STARS_ROW, TAKEN, TAKEN_ROW};
 use crate::named::named_by;
 use crate::rows::{clear, is_row, put_row, row_at};
 use matching::codes::BEHIND_ONE;
@@ -20,14 +19,13 @@ fn mark_at(words: &mut [u64], i: usize, p: usize)
     words[i * 8 + p / 64] |= 1u64 << (p % 64);
 }
 
-// The bytes that a position with this code takes.
-fn taken_by(code: u64) -> ByteSet
-    ensures { SetOf (takes code) result.words }
+// Marks position p in the rows of all bytes.
+fn mark_all(words: &mut [u64], p: usize)
+    requires { (p < 512) × (stars_at ≤ length words.old) }
+    ensures { Marks words.old words.new p (λ x. true) }
 {
-    if code == BEHIND_ONE {
-        !ByteSet::EMPTY
-    } else {
-        named_by(code)
+    for b in FIRST_BYTE..=LAST_BYTE {
+        mark_at(words, TAKEN_ROW + b as usize, p);
     }
 }
 
@@ -36,8 +34,12 @@ fn mark_code(words: &mut [u64], p: usize, code: u64)
     requires { (p < 512) × (stars_at ≤ length words.old) }
     ensures { Marks words.old words.new p (takes code) }
 {
-    for b in taken_by(code).bytes() {
-        mark_at(words, TAKEN_ROW + usize::from(b), p);
+    if code == BEHIND_ONE {
+        mark_all(words, p);
+        return;
+    }
+    for b in named_by(code).bytes() {
+        mark_at(words, TAKEN_ROW + b as usize, p);
     }
 }
 
@@ -60,8 +62,8 @@ fn followers_of(words: &[u64]) -> ByteSet
 {
     let mut set = ByteSet::EMPTY;
     for b in b'a'..=b'z' {
-        let row = row_at(words, TAKEN_ROW + usize::from(b));
-        if is_row(words, TAKEN_ROW + usize::from(b - 32), row) {
+        let row = row_at(words, TAKEN_ROW + b as usize);
+        if is_row(words, TAKEN_ROW + (b - 32) as usize, row) {
             set = set.with(b);
         }
     }
