@@ -40,6 +40,7 @@ impl<'a> Iterator for Entries<'a> {
 
     ghost remaining = { item_count entries_left };
 
+    #[inline(always)]
     fn next(&mut self) -> Option<Entry<'a>> {
         let Ok(record) = record_at(self.rest, 0) else {
             return None;

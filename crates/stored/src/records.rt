@@ -127,6 +127,7 @@ fn network_of(a: u8, b: u8, c: u8, d: u8, length: u8) -> Item
 }
 
 // What the body of a kind says.
+#[inline(always)]
 fn decode(kind: Kind, body: &[u8]) -> Option<Item>
     ensures { result ≡ decode_of kind body.now }
 {
@@ -149,6 +150,7 @@ fn decode(kind: Kind, body: &[u8]) -> Option<Item>
 }
 
 // The record whose kind is known and whose body starts at a place.
+#[inline(always)]
 fn record_behind(table: &[u8], start: usize, kind: Kind) -> Result<Record, RecordFault>
     requires { start ≤ length table.now }
     ensures { as_record result ≡ record_behind table.now start kind }
@@ -166,6 +168,7 @@ fn record_behind(table: &[u8], start: usize, kind: Kind) -> Result<Record, Recor
 
 /// The record at a place of any byte string.
 #[tactic(auto, unfolding(crate::specs::Records::record_at))]
+#[inline(always)]
 pub fn record_at(table: &[u8], at: usize) -> Result<Record, RecordFault>
     ensures { as_record result ≡ record_at table.now at }
 {
