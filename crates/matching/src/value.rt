@@ -19,14 +19,13 @@ fn row_of_value(symbols: Symbols, begins: bool, b: u8, row: [u64; 8]) -> [u64; 8
     let mut new = begins;
     let mut next = [0u64; 8];
     mark_in(&mut next, 0, new);
-    let mut p: usize = 1;
-    for code in symbols {
+    for (i, code) in symbols.enumerate() {
+        let p = i + 1;
         let here = (row[p / 64] >> (p % 64)) % 2 == 1;
         let reached = cell_step(begins, b, code, new, before, here);
         mark_in(&mut next, p, reached);
         new = reached;
         before = here;
-        p += 1;
     }
     next
 }
