@@ -77,11 +77,13 @@ pub(crate) struct Footprints<'a> {
     ghost bounded: { Bounded words.now bounds },
     ghost meets_ahead: { MeetsAhead words.now bounds meets },
     ghost kinds_ahead: { KindsAhead bounds kinds },
+    ghost few: { product (map length (prints_in words.now bounds 0)) ≤ most_kinds },
 }
 
 impl<'a> Footprints<'a> {
     pub(crate) fn new(words: &'a [u64], bounds: [usize; 9], sides: Sides) -> Footprints<'a>
-        requires { Bounded words.now bounds }
+        requires bounded { Bounded words.now bounds }
+        requires few { product (map length (prints_in words.now bounds 0)) ≤ most_kinds }
         ensures words { result.words ≡ words.entry }
         ensures bounds { result.bounds ≡ bounds }
         ensures sides { result.sides ≡ sides }
@@ -123,7 +125,6 @@ impl<'a> Footprints<'a> {
 
     // The gaps among all kinds.
     pub(crate) fn count_gaps(&self) -> u64
-        requires { product (map length (prints_in self.now.words.now self.now.bounds 0)) ≤ most_kinds }
         ensures { result ≡ count_of self.now.sides (prints_in self.now.words.now self.now.bounds 0) (2 ^ 64 - 1) }
     {
         self.count(0, ALL_ROWS)
@@ -149,7 +150,6 @@ impl<'a> Footprints<'a> {
 
     // The footprints of gap k, column by column. Behind a column in which it does not lie there are no kinds, and all are 0.
     pub(crate) fn gap_prints(&self, k: u64) -> [u64; 8]
-        requires { product (map length (prints_in self.now.words.now self.now.bounds 0)) ≤ most_kinds }
         ensures { result ≡ prints_along self.now.sides (prints_in self.now.words.now self.now.bounds 0) (2 ^ 64 - 1) k }
     {
         let mut prints = [0u64; 8];

@@ -1,22 +1,11 @@
 -- Refusal 10: the sums of both tables against the limits, and the lowest column that passes one.
-use Rattle.std.proofs.Common.{ℕ, suc, ◌+◌, ◌-◌, ◌≤◌, ◌<◌, ◌≡◌, refl, sym, ◌∙◌, ap, Bool, true, false, List, ◌++◌, add-one, arith, ltb, length, ltb-true, ltb-false, lt-ltb, le-ltb}
+use Rattle.std.proofs.Common.{ℕ, suc, ◌+◌, ◌-◌, ◌≤◌, ◌<◌, ◌≡◌, sym, ◌∙◌, ap, Bool, true, false, List, ◌++◌, add-one, arith, ltb, length, lt-ltb, le-ltb}
 use Rattle.stored.specs.Choice.{pick}
 use Rattle.stored.specs.Tables.{Statement}
 use Rattle.columns.specs.Values.{values_in, sum_of, networks_in}
 use Rattle.columns.proofs.Widths.{sum_both, networks-both}
 use Rattle.comparing.specs.Columns.{is_wide}
 use Rattle.comparing.specs.Compared.{lowest}
-
--- a sum above a limit, without the sum
-pub over_first : (limit a b : ℕ) → limit < a → true ≡ ltb limit (a + b)
-over_first limit a b h = sym (lt-ltb limit (a + b) (omega arith))
-
-pub over-rest : (limit a b : ℕ) → a ≤ limit → ltb (limit - a) b ≡ ltb limit (a + b)
-over-rest limit a b h = by (ltb (limit - a) b) refl
-  where
-    by : (t : Bool) → ltb (limit - a) b ≡ t → t ≡ ltb limit (a + b)
-    by true e = sym (lt-ltb limit (a + b) (omega (arith, ltb-true (limit - a) b e)))
-    by false e = sym (le-ltb limit (a + b) (omega (arith, ltb-false (limit - a) b e)))
 
 module _ (first second : List Statement) where
   -- a column of strings

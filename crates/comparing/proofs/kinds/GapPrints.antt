@@ -1,6 +1,6 @@
 -- Gap k's footprints are laid column by column: those before a column are in place and the others 0, as they are behind a column that
 -- has no footprint.
-use Rattle.std.proofs.Common.{ℕ, zero, suc, ◌+◌, ◌-◌, ◌≤◌, ◌<◌, ◌≡◌, refl, sym, ◌∙◌, ap, subst, Bool, List, [], ◌∷◌, ◌++◌, append_assoc, mod-eq_of_lt, add-one, arith, bit_and, length, get_or, take, drop, set, replicate, take-append-drop, length-set, pow_pos, drop-drop, drop-set-lt, take-suc-set, le-ltb}
+use Rattle.std.proofs.Common.{ℕ, zero, suc, ◌+◌, ◌-◌, ◌<◌, ◌≡◌, refl, sym, ◌∙◌, ap, subst, Bool, List, [], ◌∷◌, ◌++◌, append_assoc, mod-eq_of_lt, add-one, arith, bit_and, length, get_or, take, drop, set, replicate, take-append-drop, length-set, pow_pos, drop-drop, drop-set-lt, take-suc-set, le-ltb}
 use Rattle.std.specs.Int.Bits.{and_zero_l, and_zero_r}
 use Rattle.stored.specs.Choice.{pick}
 use Rattle.comparing.specs.Machinery.Kinds.{count_of, steps_to, left_of, step_of, prints_along, prints_from, prints_in}
@@ -75,12 +75,6 @@ no_rows sides (prints ∷ lists) k =
         (ap (λ (n : ℕ). bit_and n sides.allow) (mod-eq_of_lt (pow_pos sides.size)) ∙ and_zero_l sides.allow)
 
 module _ (sides : Sides) (words bounds : List ℕ) (column rows k : ℕ) where
-  -- behind the last column there is nothing
-  pub along-end : 8 ≤ column → prints_along sides (prints_in words bounds column) rows k ≡ replicate (8 - column) 0
-  along-end h =
-      let none : 0 ≡ 8 - column = omega arith in
-      subst (λ (n : ℕ). prints_along sides (prints_from n words bounds column) rows k ≡ replicate n 0) none refl
-
   -- from a column on in which gap k does not lie all are 0
   pub along-none : column < 8 → (step_of sides (prints_in words bounds column) rows k).print ≡ 0
       → prints_along sides (prints_in words bounds column) rows k ≡ replicate (8 - column) 0

@@ -1,5 +1,5 @@
 -- Where all rows left are in every footprint of the columns ahead, all kinds there have the same rows, and so the same verdict.
-use Rattle.std.proofs.Common.{ℕ, zero, suc, ◌+◌, ◌-◌, ◌*◌, ◌/◌, ◌%◌, ◌^◌, ◌<◌, ◌≤◌, ◌≡◌, refl, sym, ◌∙◌, ap, ap₂, Bool, true, false, ◌||◌, List, [], ◌∷◌, map, suc-mul, mul_assoc, mul-add, mul_comm, mul-le-mul, mod-lt, mod-eq_of_lt, div-add-mod', add-one, arith, bit_and, eqb, ltb, length, get_or, set, length-set, get_or-set_same, get_or-set_other, eqb-true, ltb-true, ltb-false}
+use Rattle.std.proofs.Common.{ℕ, zero, suc, ◌+◌, ◌-◌, ◌*◌, ◌/◌, ◌%◌, ◌^◌, ◌<◌, ◌≤◌, ◌≡◌, refl, sym, ◌∙◌, ap, ap₂, Bool, true, false, ◌||◌, List, [], ◌∷◌, map, suc-mul, mul_assoc, mul-add, mul_comm, mod-eq_of_lt, div-add-mod', add-one, arith, bit_and, eqb, ltb, length, get_or, set, length-set, get_or-set_same, get_or-set_other, eqb-true, ltb-true, ltb-false}
 use Rattle.std.proofs.Math.Nat.{mul-add-mod_self_right}
 use Rattle.std.specs.Int.Bits.{and_comm, and_le_r}
 use Rattle.judging.specs.Machinery.Rows.{bit_of}
@@ -107,25 +107,9 @@ settled-gaps f column rows print n low few is settled =
     ∙ sym (settled-once f.sides (prints_in f.words.now f.bounds (column + 1)) (bit_and rows print) (get_or f.meets (column + 1) 0)
     (f.meets_ahead.at (column + 1) (omega arith)) settled)
 
--- a product of two numbers of 32 bits is a word
-pub product-fits : (count kinds : ℕ) → kinds < 2 ^ 32 → count % 2 ^ 32 * kinds < 2 ^ 64
-product-fits count kinds h =
-    let low : count % 2 ^ 32 ≤ 2 ^ 32 - 1 = omega (arith, mod-lt count {m = 2 ^ 32} (omega arith)) in
-    let most = mul-le-mul {n₁ = count % 2 ^ 32} {m₁ = kinds} {n₂ = 2 ^ 32 - 1} {m₂ = 2 ^ 32 - 1} low (omega arith) in
-    omega arith
-
--- nine times the same number
-abbrev pub nine_of : ℕ → List ℕ
-nine_of n = n ∷ n ∷ n ∷ n ∷ n ∷ n ∷ n ∷ n ∷ n ∷ []
-
 -- nine numbers that are right from a column on
 abbrev pub RightFrom : (ℕ → ℕ) → List ℕ → ℕ → Type 0
 RightFrom f found behind = (length found ≡ 9) × ((c : ℕ) → behind ≤ c → c ≤ 8 → get_or found c 0 ≡ f c)
-
--- the last
-pub right-last : (f : ℕ → ℕ) (found : List ℕ) → length found ≡ 9 → get_or found 8 0 ≡ f 8 → RightFrom f found 8
-right-last f found nine e =
-    (nine, λ c from to. let here : c ≡ 8 = omega arith in ap (λ (n : ℕ). get_or found n 0) here ∙ e ∙ sym (ap f here))
 
 -- one column more
 pub right-more : (f : ℕ → ℕ) (found : List ℕ) (behind v : ℕ) → 0 < behind → behind ≤ 8 → RightFrom f found behind → v ≡ f (behind - 1)
@@ -156,6 +140,3 @@ kinds-step bounds column low =
     ap (λ (n : ℕ). kinds_from n bounds column % 2 ^ 32) less
     ∙ sym (times-remainder (get_or bounds (suc column) 0 - get_or bounds column 0) (kinds_from (8 - suc column) bounds (suc column)) (2 ^ 32))
     ∙ sym (ap (λ (n : ℕ). (get_or bounds n 0 - get_or bounds column 0) * kinds_on bounds n % 2 ^ 32) (add-one column))
-
-pub kinds-low : (bounds : List ℕ) (column : ℕ) → kinds_on bounds column < 2 ^ 32
-kinds-low bounds column = mod-lt (kinds_from (8 - column) bounds column) {m = 2 ^ 32} (omega arith)

@@ -22,7 +22,7 @@ use Rattle.comparing.specs.Gaps.{Alike}
 use Rattle.comparing.specs.Columns.{Few}
 use Rattle.comparing.specs.Compared.{bytes_in}
 use Rattle.comparing.specs.Machinery.Product.{print_of}
-use Rattle.comparing.specs.Machinery.ShownValues.{FirstWith, StartsAt, LowestState, FoundState, LaidValue, Lays, LaysString, NoneBelow}
+use Rattle.comparing.specs.Machinery.ShownValues.{FirstWith, StartsAt, LowestState, FoundState, NoneBelow}
 use Rattle.comparing.proofs.survey.Admitting.{needed, is-needed, optional, is-optional}
 use Rattle.comparing.proofs.survey.AllStates.{empty-alone, states-many}
 use Rattle.comparing.proofs.Deciding.{state-decides}
@@ -131,10 +131,6 @@ module _ (first second : List Statement) (column : ℕ) (few : length (codes_of 
       by true h k = admits-needed (ltb-true column 3 h) k.0 k.1
       by false h k = admits-optional (ltb-false column 3 h) k
 
-  -- the first state that shows values is there
-  pub starts-low : from ≤ n
-  starts-low = admits.enough
-
   module _ (print : ℕ) (s : List ℕ) (v : FirstWith first second column print (text s)) where
     row : (i : ℕ) × (i < n) × (row_at words i ≡ row_of codes s)
     row = reached codes words n e s (admits.bytes s v.least.ok)
@@ -216,15 +212,6 @@ module _ (first second : List Statement) where
   string-needed column print low absent v = absurd (needed column low absent v.least.ok)
   string-needed column print low (text s) v = (s, refl)
   string-needed column print low (number m) v = absurd (needed column low (number m) v.least.ok)
-
-  -- where only strings can have the footprint, laying the first of them is laying the first value
-  pub lays-value : (column print : ℕ) (before after : List ℕ) (r : Option ℕ)
-      → ((v : Value) → FirstWith first second column print v → (s : List ℕ) × (v ≡ text s))
-      → LaysString first second column print before after r → Lays first second column print before after r
-  lays-value column print before after r only laid v w =
-      let e = (only v w).1 in
-      subst (λ (x : Value). LaidValue column before after r x) (sym e)
-      (laid (only v w).0 (subst (λ (x : Value). FirstWith first second column print x) e w))
 
   -- and the first string is there
   pub has-string : (column print : ℕ) → ((v : Value) → FirstWith first second column print v → (s : List ℕ) × (v ≡ text s))

@@ -1,6 +1,5 @@
 -- Footprints in the workspace, from one bound to another: one after the other, one more behind them, and as the footprints of what was found.
-use Rattle.std.proofs.Common.{ℕ, zero, suc, ◌+◌, ◌-◌, ◌≤◌, ◌<◌, ◌≡◌, refl, sym, ap, ap₂, ◌∙◌, Bool, true, false, ◌||◌, List, [], ◌∷◌, ◌++◌, map, arith, eqb, length, get_or, take, drop, set, length-drop, drop-cons, take-suc-set, length-take-le}
-use Rattle.std.proofs.Math.Seq.{drop-set-add}
+use Rattle.std.proofs.Common.{ℕ, zero, suc, ◌+◌, ◌-◌, ◌≤◌, ◌≡◌, refl, sym, ap, ap₂, ◌∙◌, Bool, true, false, ◌||◌, List, [], ◌∷◌, ◌++◌, map, arith, eqb, length, take, drop, length-drop, length-take-le}
 use Rattle.stored.specs.Choice.{pick, some}
 use Rattle.states.specs.Machinery.Rows.{prints_at}
 use Rattle.comparing.specs.Machinery.Adding.{adding, adding_rows}
@@ -9,21 +8,6 @@ use Rattle.comparing.specs.Machinery.Survey.{prints_between, add_print, Added}
 -- none
 pub prints-none : (words : List ℕ) (from : ℕ) → prints_between words from from ≡ []
 prints-none words from = ap (λ (n : ℕ). take n (drop (prints_at + from) words)) {x = from - from} {y = 0} (omega arith)
-
--- the first of them, then the others
-pub prints-next : (words : List ℕ) (i to : ℕ) → i < to → prints_at + to ≤ length words
-    → prints_between words i to ≡ get_or words (prints_at + i) 0 ∷ prints_between words (i + 1) to
-prints-next words i to low room =
-    ap₂ take {x = to - i} {y = suc (to - (i + 1))} (omega arith) (drop-cons words (prints_at + i) 0 (omega arith))
-    ∙ ap (λ (n : ℕ). get_or words (prints_at + i) 0 ∷ take (to - (i + 1)) (drop n words)) {x = suc (prints_at + i)} {y = prints_at + (i + 1)} (omega arith)
-
--- one more behind them
-pub prints-more : (words : List ℕ) (from to print : ℕ) → from ≤ to → prints_at + to < length words
-    → prints_between (set words (prints_at + to) print) from (to + 1) ≡ prints_between words from to ++ (print ∷ [])
-prints-more words from to print low room =
-    ap (λ (k : ℕ). take (to + 1 - from) (drop (prints_at + from) (set words k print))) {x = prints_at + to} {y = (prints_at + from) + (to - from)} (omega arith)
-    ∙ ap₂ take {x = to + 1 - from} {y = suc (to - from)} (omega arith) (drop-set-add (prints_at + from) words (to - from) print)
-    ∙ take-suc-set (drop (prints_at + from) words) (to - from) print (omega (arith, length-drop (prints_at + from) words))
 
 -- how many
 pub prints-length : (words : List ℕ) (from to : ℕ) → from ≤ to → prints_at + to ≤ length words → length (prints_between words from to) ≡ to - from

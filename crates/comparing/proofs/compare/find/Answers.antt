@@ -30,23 +30,11 @@ returns-in_err-bounds c =
     (answer-tables (keeps a.values.now) (IsAnswer a.k a.values.now) a.first.now a.second.now _ tables.first.now tables.second.now (ap (λ b. b.now) read.0) (ap (λ b. b.now) read.1) read.2 read.3
     (widths-refused (keeps a.values.now) (IsAnswer a.k a.values.now) (rows_of tables.first.now) (rows_of tables.second.now) _ c.in_err-bounds.ensures))
 
-pub count_gaps-requires : goal.count_gaps-requires
-count_gaps-requires c =
+pub new-footprints-requires : goal.new-footprints-requires
+new-footprints-requires c =
     let tables = c.in_ok-tables.tables in
-    let f = c.new-footprints.result in
-    let made = c.new-footprints.ensures in
-    let listed : Listed (rows_of tables.first.now) (rows_of tables.second.now) f.words.now f.bounds = rw (made.words, made.bounds) c.in_ok-bounds.ensures.1 in
-    let told : SidesOf (rows_of tables.first.now) (rows_of tables.second.now) f.sides = rw made.sides c.sides_of.ensures in
-    within-kinds (rows_of tables.first.now) (rows_of tables.second.now) f.sides told f.words.now f.bounds listed
-
-pub gap_prints-prints-requires : goal.gap_prints-prints-requires
-gap_prints-prints-requires c =
-    let tables = c.in_ok-tables.tables in
-    let f = c.new-footprints.result in
-    let made = c.new-footprints.ensures in
-    let listed : Listed (rows_of tables.first.now) (rows_of tables.second.now) f.words.now f.bounds = rw (made.words, made.bounds) c.in_ok-bounds.ensures.1 in
-    let told : SidesOf (rows_of tables.first.now) (rows_of tables.second.now) f.sides = rw made.sides c.sides_of.ensures in
-    within-kinds (rows_of tables.first.now) (rows_of tables.second.now) f.sides told f.words.now f.bounds listed
+    let listed = c.in_ok-bounds.ensures.1 in
+    record { bounded = listed.bounded; few = within-kinds (rows_of tables.first.now) (rows_of tables.second.now) c.survey_both.new.words c.in_ok-bounds.bounds listed }
 
 pub returns-then-count_gaps-k : goal.returns-then-count_gaps-k
 returns-then-count_gaps-k c =
