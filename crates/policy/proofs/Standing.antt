@@ -10,7 +10,7 @@ use Rattle.stored.specs.declared.records.Kind.TheVariants as K
 use Rattle.stored.specs.declared.machine.State.{State}
 use Rattle.stored.specs.Machine.{Turn as T, Turn}
 use Rattle.stored.specs.declared.writer.Writer.{Writer}
-use Rattle.stored.specs.Writing.{WriteAnswer as W, WriteAnswer}
+use Rattle.stored.specs.Writing.{WriteAnswer}
 use Rattle.json_text.specs.Machinery.Pieces.{content_of}
 use Rattle.stored.proofs.Choosing.{never}
 use Rattle.records.specs.Networks as N
@@ -53,13 +53,6 @@ stands-laid w x i bs buffer r h e = rw e (by (wish_turn w.state x) h.writes)
         ≡ buffer_after w.at (wish_record x) buffer (placing w.at t (length (wish_record x)) (length buffer))
     by (T.Next next) f = rw (f next refl)
     by (T.Refused n) f = refl
-
--- a refused wish
-pub refused-would : (s : State) (x : Wish) (n : ℕ) → wish_turn s x ≡ T.Refused n → would_take (T.Refused n) 0 ≡ wish_would s x
-refused-would s x n h = ap (λ (t : Turn). would_take t (length (wish_record x))) (sym h)
-
-pub refused-writing : (w : Writer) (x : Wish) (n room : ℕ) → wish_turn w.state x ≡ T.Refused n → W.Refused n w.at ≡ wish_writing w x room
-refused-writing w x n room h = ap (λ (t : Turn). placing w.at t (length (wish_record x)) room) (sym h)
 
 -- the first 129 bytes of a value
 pub value-stands : (s : State) (n : ℕ) (bs : List ℕ) → Stands s (made n (value bs)) I.Value (take 129 bs)
