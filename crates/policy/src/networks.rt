@@ -1,8 +1,8 @@
 // The network that a string says: four decimal numbers with dots between them, then nothing, or a slash and a length.
-ghost use Rattle.std.specs.Prelude.{◌≡◌, ◌<◌, drop};
+ghost use Rattle.std.specs.Prelude.{◌≡◌, drop};
 ghost use Rattle.json_text.specs.Machinery.Pieces.{content_of};
 ghost use Rattle.records.specs.Networks.{network_of};
-ghost use Rattle.policy.specs.Machinery.NetworkTexts.{as_digit, longer_of, digit_step, dot_step, slash_step, dotted_step, length_step, step_of, end_of, read_of, RoomLeft};
+ghost use Rattle.policy.specs.Machinery.NetworkTexts.{as_digit, longer_of, step_of, end_of, read_of, RoomLeft};
 
 use json_text::pieces::{advance, piece_at};
 
@@ -54,75 +54,33 @@ fn one_more(most: u8, digit: u8, number: Option<u8>) -> Option<u8>
     }
 }
 
-// A digit of a number up to a greatest value.
-fn at_digit(part: Part, most: u8, digit: u8, number: Option<u8>) -> Option<Seen>
-    ensures { result ≡ digit_step part (longer_of most digit number) }
-{
-    let value = one_more(most, digit, number)?;
-    Some(Seen {
-        part,
-        number: Some(value),
-    })
-}
-
-// A dot: the number becomes a byte of the address.
-fn at_dot(dots: u8, address: u32, number: Option<u8>) -> Option<Seen>
-    requires { address < 0x1000000 }
-    ensures { result ≡ dot_step dots address number }
-{
-    let value = number?;
-    if dots == 0 {
-        return None;
-    }
-    let part = Part::Dotted(dots - 1, address * 256 + u32::from(value));
-    Some(Seen { part, number: None })
-}
-
-// A slash: the address is whole, and its length comes.
-fn at_slash(dots: u8, address: u32, number: Option<u8>) -> Option<Seen>
-    requires { address < 0x1000000 }
-    ensures { result ≡ slash_step dots address number }
-{
-    let value = number?;
-    if dots != 0 {
-        return None;
-    }
-    let part = Part::Length(address * 256 + u32::from(value));
-    Some(Seen { part, number: None })
-}
-
-// One byte of the four numbers.
-fn dotted_step(dots: u8, address: u32, number: Option<u8>, byte: u8) -> Option<Seen>
-    requires { address < 0x1000000 }
-    ensures { result ≡ dotted_step dots address number byte }
-{
-    match digit_of(byte) {
-        Some(digit) => at_digit(Part::Dotted(dots, address), 255, digit, number),
-        None => match byte {
-            b'.' => at_dot(dots, address, number),
-            b'/' => at_slash(dots, address, number),
-            _ => None,
-        },
-    }
-}
-
-// One byte of the length.
-fn length_step(address: u32, number: Option<u8>, byte: u8) -> Option<Seen>
-    ensures { result ≡ length_step address number byte }
-{
-    let digit = digit_of(byte)?;
-    at_digit(Part::Length(address), 32, digit, number)
-}
-
-// One byte.
+// One byte: a digit; a dot, where the number becomes a byte of the address; a slash, where the address is whole and its length comes.
 fn step(seen: Seen, byte: u8) -> Option<Seen>
     requires { RoomLeft seen.part }
     ensures { result ≡ step_of seen byte }
 {
-    match seen.part {
-        Part::Dotted(dots, address) => dotted_step(dots, address, seen.number, byte),
-        Part::Length(address) => length_step(address, seen.number, byte),
+    if let Some(digit) = digit_of(byte) {
+        let most = match seen.part {
+            Part::Dotted(_, _) => 255,
+            Part::Length(_) => 32,
+        };
+        let value = one_more(most, digit, seen.number)?;
+        return Some(Seen {
+            number: Some(value),
+            ..seen
+        });
     }
+    let Part::Dotted(dots, address) = seen.part else {
+        return None;
+    };
+    let value = seen.number?;
+    let address = address * 256 + u32::from(value);
+    let part = match byte {
+        b'.' if dots != 0 => Part::Dotted(dots - 1, address),
+        b'/' if dots == 0 => Part::Length(address),
+        _ => return None,
+    };
+    Some(Seen { part, number: None })
 }
 
 // What the bytes say where they end.
