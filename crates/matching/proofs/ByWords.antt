@@ -1,6 +1,6 @@
 -- The step by words is the step by codes; and bytes that lead to the same positions make the same step.
 use Rattle.std.proofs.Common.{◌≡◌, ℕ, zero, suc, ◌+◌, ◌*◌, ◌<◌, ◌≤◌, Bool, true, false, ◌&&◌, ◌||◌, eqb, ltb, List, length, get_or, sym, refl, ap, ◌∙◌, ap₂, arith, ltb-false, ltb-true, eqb-true}
-use mathlib.Core.Bool.{and_comm, or_comm, or-false, false≢true}
+use Rattle.std.proofs.Math.Bool.{and_comm, or_comm, or-false, false≢true}
 use Rattle.matching.specs.Symbols.{pick, fold_byte}
 use Rattle.matching.specs.Machinery.Codes.{star_code, one_code, takes_byte}
 use Rattle.matching.specs.Machinery.Rows.{positions, cell_step, step_bit, row_bit, step_row}

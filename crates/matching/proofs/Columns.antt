@@ -1,6 +1,6 @@
 -- The row of a string over the codes of a column is the string's state, bit by bit; so equal states are equal rows and the other way round.
 use Rattle.std.proofs.Common.{◌≡◌, ℕ, zero, suc, ◌+◌, ◌-◌, ◌<◌, ◌≤◌, Bool, true, false, ltb, List, [], ◌∷◌, ◌++◌, length, get_or, sym, refl, ap, ◌∙◌, subst, append_assoc, le_of_suc-le-suc, not-suc-le-zero, zero-add, arith, length-append, get_or-append-add, ext_get_or, ltb-false, ltb-true}
-use lib.ListN.{length-map, get_or-append, get_or-eq_default}
+use Rattle.std.proofs.Math.ListN.{length-map, get_or-append, get_or-eq_default}
 use Rattle.matching.specs.declared.reading.Reading.{Reading}
 use Rattle.matching.specs.Symbols.{symbols, compare_of, ignores_case}
 use Rattle.matching.specs.Matches.{prefix_matches}

@@ -8,6 +8,5 @@ pub mod ByWords
 pub mod MarkedRows
 pub mod AlikeBytes
 mod SymbolsLeft
-mod Parts
 mod Sweeps
 mod WordBits

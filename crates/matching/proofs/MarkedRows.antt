@@ -1,7 +1,7 @@
 -- A row is made from the lowest position on, by marking one position after the other or by laying one word after the other.
 use Rattle.std.proofs.Common.{◌≡◌, ℕ, zero, suc, ◌+◌, ◌*◌, ◌/◌, ◌%◌, ◌<◌, ◌≤◌, Bool, true, false, ◌&&◌, ◌||◌, eqb, ◌⊎◌, List, ◌∷◌, length, get_or, set, replicate, sym, refl, ap, ◌∙◌, ap₂, inl, inr, le_of_suc-le-suc, not-suc-le-zero, add-zero, add-suc, add-one, arith, ne_eqb}
-use mathlib.Core.Path.{fun_ext}
-use lib.ListN.{get_or-eq_default}
+use Rattle.std.proofs.Math.Path.{fun_ext}
+use Rattle.std.proofs.Math.ListN.{get_or-eq_default}
 use Rattle.matching.specs.Symbols.{fold_byte}
 use Rattle.matching.specs.Machinery.Codes.{one_code, star_code, takes_byte}
 use Rattle.matching.specs.Machinery.Rows.{positions, word_bit, row_bit, pack_word, pack, mark_row}

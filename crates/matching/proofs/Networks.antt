@@ -1,8 +1,8 @@
 -- A network is a range of addresses: an address lies between its lowest and its highest exactly when the first bits agree.
 use Rattle.std.proofs.Common.{◌≡◌, ℕ, ◌+◌, ◌-◌, ◌*◌, ◌/◌, ◌^◌, ◌<◌, ◌≤◌, Bool, true, false, ◌&&◌, eqb, leb, sym, refl, ap, ◌∙◌, subst, add-mul, one-mul, div-mul-le_self, arith, pow_pos, pow-add, shr_lt, eqb-true, le-leb, leb-true}
-use native.Mathlib.Nat.{lt-div-mul-add, div-eq_of_lt-le}
-use lib.Arith.{digits_lt}
-use borrow.Author.Tests.{eqb-false}
+use Rattle.std.proofs.Math.Nat.{lt-div-mul-add, div-eq_of_lt-le}
+use Rattle.std.proofs.Math.Arith.{digits_lt}
+use Rattle.std.proofs.lemmas.Bool.{eqb-false}
 use Rattle.matching.specs.Network.{network_size, agree}
 use Rattle.matching.specs.Machinery.Ranges.{network_low, network_high}
 

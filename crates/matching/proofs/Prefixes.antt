@@ -1,7 +1,7 @@
 -- Which prefixes of a value match a string, by the string's last byte: the rules that a state is stepped by. Proved once, over the
 -- comparison of bytes.
 use Rattle.std.proofs.Common.{◌≡◌, ℕ, suc, ◌<◌, Bool, true, false, ◌&&◌, ◌||◌, List, [], ◌∷◌, ◌++◌, length, get_or, take, sym, refl, ap, ◌∙◌, ap₂, take-suc}
-use mathlib.Core.Bool.{and-true, and-false, or-false, and_assoc}
+use Rattle.std.proofs.Math.Bool.{and-true, and-false, or-false, and_assoc}
 use Rattle.matching.specs.Symbols.{Symbol, star, one, byte}
 use Rattle.matching.specs.Matches.{is_empty, some_end, first_and_rest, any_byte, matches, prefix_matches}
 use Rattle.matching.specs.Machinery.Steps.{symbol_first, symbol_step}

@@ -1,10 +1,10 @@
 -- Rows of bits: a packed row has the bits that it was packed of, and marking one position after the other packs a row.
 use Rattle.std.proofs.Common.{◌≡◌, ℕ, zero, suc, ◌+◌, ◌-◌, ◌*◌, ◌/◌, ◌%◌, ◌^◌, ◌<◌, ◌≤◌, Bool, true, false, ◌&&◌, eqb, ltb, ◌⊎◌, List, ◌∷◌, get_or, set, replicate, sym, refl, ap, ◌∙◌, subst, ap₂, inl, inr, le_of_suc-le-suc, not-suc-le-zero, one-mul, div-one, arith, pow_pos, ltb-false, ltb-true, le-ltb, lt-ltb}
-use mathlib.Core.Path.{fun_ext}
-use native.Mathlib.Nat.{pow-succ', div-div-eq-div-mul, zero-div}
-use lib.Dec.{leb-suc-suc}
-use lib.Arith.{lt_of_le-ne}
-use lib.Bits.{bit_or, or_shifted_r}
+use Rattle.std.proofs.Math.Path.{fun_ext}
+use Rattle.std.proofs.Math.Nat.{pow-succ', div-div-eq-div-mul, zero-div}
+use Rattle.std.proofs.Math.Dec.{leb-suc-suc}
+use Rattle.std.proofs.Math.Arith.{lt_of_le-ne}
+use Rattle.std.specs.Int.Bits.{bit_or, or_shifted_r}
 use Rattle.matching.specs.Machinery.Rows.{word_bit, row_bit, bit_number, pack_word, pack, mark_row}
 
 -- f below p, and false from there on

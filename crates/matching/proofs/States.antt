@@ -1,10 +1,10 @@
 -- What a state means: for a value whose codes stand anywhere in a column, the bits at its positions say which of its prefixes match the
 -- whole string. The step of a code is the step of its symbol, so this is the rule of prefixes, by induction on the string.
 use Rattle.std.proofs.Common.{◌≡◌, ℕ, zero, suc, ◌+◌, ◌*◌, ◌<◌, ◌≤◌, Bool, true, false, ◌&&◌, ◌||◌, eqb, List, [], ◌∷◌, ◌++◌, map, length, get_or, sym, refl, ap, ◌∙◌, subst, ap₂, append_assoc, append-nil, le_of_suc-le-suc, not-suc-le-zero, add-zero, add-suc, zero-add, arith, length-append, get_or-append-add, eq-eqb, ne_eqb, eqb-true}
-use mathlib.Core.Bool.{or-false}
-use lib.ListN.{length-map, get_or-append}
-use lib.Seq.{take-length, get_or-append_seam}
-use borrow.Author.Tests.{eqb-false}
+use Rattle.std.proofs.Math.Bool.{or-false}
+use Rattle.std.proofs.Math.ListN.{length-map, get_or-append}
+use Rattle.std.proofs.Math.Seq.{take-length, get_or-append_seam}
+use Rattle.std.proofs.lemmas.Bool.{eqb-false}
 use Rattle.matching.specs.declared.reading.Reading.{Reading}
 use Rattle.matching.specs.Symbols.{Symbol, star, one, byte, symbols, fold_byte, ignores_case, same_byte, compare_of, pick}
 use Rattle.matching.specs.Matches.{matches, value_matches, prefix_matches}

@@ -1,8 +1,8 @@
 -- Going over the codes of a column once, from the lowest position on, marks exactly the positions that the string reaches.
 use Rattle.std.proofs.Common.{◌≡◌, ℕ, zero, suc, ◌+◌, ◌*◌, ◌<◌, ◌≤◌, Bool, true, false, ◌&&◌, ◌||◌, ltb, List, [], ◌∷◌, length, get_or, take, replicate, sym, refl, ap, ◌∙◌, ap₂, add-zero, zero-add, add-one, arith, length-take, take_all, get_or-take, ltb-false, ltb-true, ne_eqb}
-use mathlib.Core.Path.{fun_ext}
-use mathlib.Core.Bool.{and-false}
-use lib.ListN.{get_or-eq_default}
+use Rattle.std.proofs.Math.Path.{fun_ext}
+use Rattle.std.proofs.Math.Bool.{and-false}
+use Rattle.std.proofs.Math.ListN.{get_or-eq_default}
 use Rattle.matching.specs.Symbols.{fold_byte}
 use Rattle.matching.specs.Machinery.Rows.{positions, cell_step, cell_bit, nowhere, row_bit, pack, mark_row, cell_row, first_row, step_row}
 use Rattle.matching.proofs.Rows.{upto, upto-below, upto-past, row_same, row-mark, row-none, row_zero}

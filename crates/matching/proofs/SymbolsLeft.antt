@@ -1,8 +1,8 @@
 -- The symbols that are left, against a string: which symbol comes next decides what is asked of the string's next byte.
 use Rattle.std.proofs.Common.{◌≡◌, ℕ, ◌<◌, Bool, true, false, ◌&&◌, ◌||◌, eqb, List, [], ◌∷◌, map, length, sym, refl, ap, ◌∙◌, subst, ap₂, arith, ne_eqb}
-use mathlib.Core.Path.{fun_ext}
+use Rattle.std.proofs.Math.Path.{fun_ext}
 use mathlib.Core.List.{map-map}
-use lib.ListN.{length-map}
+use Rattle.std.proofs.Math.ListN.{length-map}
 use Rattle.matching.specs.declared.reading.Reading.{Reading}
 use Rattle.matching.specs.declared.symbols.Symbols.{Symbols}
 use Rattle.matching.specs.Symbols.{Symbol, star, one, byte, pick, symbol_of, symbols, ignores_case, same_byte}

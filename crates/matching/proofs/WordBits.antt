@@ -1,9 +1,10 @@
 -- The bits of a word: what `&`, `|`, `^`, a sum and a move by one position do to them; so a sum lets each star take over.
 use Rattle.std.proofs.Common.{◌≡◌, ℕ, zero, suc, ◌+◌, ◌*◌, ◌/◌, ◌%◌, ◌^◌, ◌<◌, Bool, true, false, not, ◌&&◌, ◌||◌, eqb, sym, refl, ap, ◌∙◌, ap₂, mod-eq_of_lt, zero-add, div-one, arith, pow_pos, eqb-true}
-use mathlib.Core.Bool.{or-false}
-use native.Mathlib.Nat.{pow-succ', add-mod_right}
-use lib.Bits.{bit_and, bit_or, bit_xor, and_block, or_block, xor_block}
-use borrow.Author.Tests.{eqb-false}
+use Rattle.std.proofs.Math.Bool.{or-false}
+use Rattle.std.proofs.Math.Nat.{pow-succ', add-mod_right}
+use Rattle.std.specs.Int.Bits.{bit_and, bit_or, bit_xor}
+use Rattle.std.proofs.lemmas.Nat.{and_block, or_block, xor_block}
+use Rattle.std.proofs.lemmas.Bool.{eqb-false}
 use Rattle.matching.specs.Machinery.Rows.{word_bit, bit_number, pack_word, nowhere}
 use Rattle.matching.specs.Machinery.Words.{moved_up, base_bit, over_bit}
 use Rattle.matching.proofs.Rows.{bit-small, bit-behind, word_none, word_same}

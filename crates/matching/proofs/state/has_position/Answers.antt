@@ -1,7 +1,7 @@
 -- Below 512 this is the definition; above, the row has no word, and an absent word has no bit.
 use Rattle.std.proofs.Common.{ℕ, ◌/◌, ◌%◌, ◌^◌, ◌≤◌, eqb, length, sym, refl, ap, ◌∙◌, arith, le-ltb}
-use native.Mathlib.Nat.{zero-div}
-use lib.ListN.{get_or-eq_default}
+use Rattle.std.proofs.Math.Nat.{zero-div}
+use Rattle.std.proofs.Math.ListN.{get_or-eq_default}
 use Rattle.matching.specs.Machinery.Rows.{row_bit, word_bit}
 use Rattle.matching.proofs.state.has_position.Goals as goal
 

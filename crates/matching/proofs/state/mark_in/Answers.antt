@@ -1,7 +1,7 @@
 -- The store is the definition: the bit that is set fits a word.
 use Rattle.std.proofs.Common.{◌≡◌, ℕ, ◌*◌, ◌/◌, ◌%◌, ◌^◌, get_or, set, sym, ap, ◌∙◌, mod-eq_of_lt, one-mul, arith}
-use lib.Bits.{bit_or}
-use lib.Pow.{pow-lt}
+use Rattle.std.specs.Int.Bits.{bit_or}
+use Rattle.std.proofs.Math.Pow.{pow-lt}
 use Rattle.matching.specs.Machinery.Rows.{mark_row}
 use Rattle.matching.proofs.state.mark_in.Goals as goal
 

@@ -1,6 +1,6 @@
 -- A symbol for each byte.
 use Rattle.std.proofs.Common.{sym}
-use lib.ListN.{length-map}
+use Rattle.std.proofs.Math.ListN.{length-map}
 use Rattle.matching.specs.Machinery.SymbolsLeft.{symbols_left}
 use Rattle.matching.proofs.symbols.Symbols.len.Goals as goal
 
