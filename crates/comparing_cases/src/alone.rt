@@ -2,7 +2,7 @@
 // are those of RULES 8, which have one gap.
 ghost use Rattle.std.specs.Prelude.{◌≤◌};
 
-use cases::same::{are_bytes, are_words};
+use cases::same::are_all;
 use cases::text::part_of;
 use comparing::compare::{gap, gap_count};
 use pairs::question::{ONES, print_counting, print_showing};
@@ -11,9 +11,9 @@ use pairs::question::{ONES, print_counting, print_showing};
 const FILLING: u8 = 0xEE;
 
 fn print_words(words: &[u64]) {
-    if are_words(words, ONES) {
+    if are_all(words, ONES) {
         io::write_all(1, b"; workspace kept");
-    } else if are_words(words, 0) {
+    } else if are_all(words, 0) {
         io::write_all(1, b"; workspace zero");
     } else {
         io::write_all(1, b"; workspace not clean");
@@ -21,12 +21,12 @@ fn print_words(words: &[u64]) {
 }
 
 fn print_values(values: &[u8]) {
-    if are_bytes(values, FILLING) {
+    if are_all(values, FILLING) {
         io::write_all(1, b"; values kept");
         return;
     }
     io::write_all(1, b"; values written");
-    if are_bytes(part_of(values, 3584, values.len()), FILLING) {
+    if are_all(part_of(values, 3584, values.len()), FILLING) {
         io::write_all(1, b", those behind kept");
     }
 }

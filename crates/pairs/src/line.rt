@@ -2,7 +2,7 @@
 // the first against the second, and `turned NAME` the second against the first. A line that begins with `- ` is printed.
 use crate::question::run_pair;
 use cases::laying::lay_words;
-use cases::text::{begins_with, first_bytes, part_of, place_of};
+use cases::text::{begins_with, first_bytes, place_of, split_once};
 
 // The room for a table, over the 16,384 bytes that one may have.
 const TABLE_ROOM: usize = 20000;
@@ -28,11 +28,9 @@ impl Table {
 
     // Lays down the bytes behind the line's colon; a line with no colon leaves no bytes.
     fn lay(&mut self, line: &[u8]) {
-        let colon = place_of(line, b':');
-        self.size = if colon < line.len() {
-            lay_words(part_of(line, colon + 1, line.len()), &mut self.room)
-        } else {
-            0
+        self.size = match split_once(line, b':') {
+            Some((_, words)) => lay_words(words, &mut self.room),
+            None => 0,
         };
     }
 }
@@ -40,11 +38,9 @@ impl Table {
 // What stands behind the first blank, up to the end of the line.
 fn name_of(line: &[u8]) -> &[u8] {
     let words = first_bytes(line, place_of(line, b'\n'));
-    let blank = place_of(words, b' ');
-    if blank < words.len() {
-        part_of(words, blank + 1, words.len())
-    } else {
-        words
+    match split_once(words, b' ') {
+        Some((_, name)) => name,
+        None => words,
     }
 }
 

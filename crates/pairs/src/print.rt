@@ -1,6 +1,6 @@
 // What came out of a question, as a part of a line.
 use cases::print::print_number;
-use cases::same::are_bytes;
+use cases::same::are_all;
 use cases::text::{first_bytes, part_of};
 use comparing::answers::{Refused, Shape};
 
@@ -17,7 +17,7 @@ fn print_column(name: &[u8], part: &[u8], size: Option<usize>) {
         io::write_all(1, name);
         io::write_all(1, first_bytes(part, size));
     }
-    if !are_bytes(part_of(part, size.unwrap_or(0), part.len()), 0) {
+    if !are_all(part_of(part, size.unwrap_or(0), part.len()), 0) {
         io::write_all(1, b" rest not zero");
     }
 }

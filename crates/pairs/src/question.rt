@@ -1,6 +1,6 @@
 // The two questions about a pair of tables, each with a workspace of its own that is full of ones before and must be zero afterwards.
 use crate::print::{print_refused, print_shape};
-use cases::same::are_words;
+use cases::same::are_all;
 use comparing::answers::{Refused, Shape};
 use comparing::compare::{gap, gap_count};
 use comparing::limits::{VALUE_BYTES, WORKSPACE_WORDS};
@@ -11,7 +11,7 @@ pub const ONES: u64 = u64::MAX;
 const PRINTED_GAPS: u64 = 8;
 
 fn print_unless_clean(workspace: &[u64]) {
-    if !are_words(workspace, 0) {
+    if !are_all(workspace, 0) {
         io::write_all(1, b"workspace not clean\n");
     }
 }
