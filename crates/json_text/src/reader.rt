@@ -11,6 +11,7 @@ pub fn json_fault(text: &[u8]) -> Option<usize>
 {
     let mut state = start();
     let mut at: usize = 0;
+    // stays: no plainer, since the state says how far a step goes
     while at < text.len() {
         let Some(next) = step(state, text[at]) else {
             return Some(at);

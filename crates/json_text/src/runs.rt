@@ -22,6 +22,7 @@ fn is_between_tokens(phase: Phase) -> bool
     !matches!(phase, Phase::Text(_, _) | Phase::Number(_) | Phase::Word(_))
 }
 
+// stays: no plainer as one function over a test of a byte, whose clause and answers about closures are longer than the two chains
 fn plain_run(bytes: &[u8]) -> usize
     ensures run { result ≡ prefix_len is_plain bytes.now }
     ensures within { result ≤ length bytes.now }

@@ -38,6 +38,7 @@ pub fn next_token(text: &[u8], from: Mark) -> Option<Token>
 {
     let mut state = from.state;
     let mut at = from.at;
+    // stays: no plainer, since the state says how far a step goes
     while at < text.len() {
         let byte = text[at];
         let next = step(state, byte);

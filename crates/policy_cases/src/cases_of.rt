@@ -44,6 +44,7 @@ fn behind_word(size: usize, at: usize, word: usize) -> usize
 fn lay_case(text: &[u8], room: &mut [u8]) -> usize {
     let mut to: usize = 0;
     let mut at: usize = 0;
+    // stays: no plainer, since a step goes over one byte or a word
     while at < text.len() {
         let byte = text[at];
         if byte == b'`' {
@@ -79,6 +80,7 @@ fn run_line(line: &[u8], json: &mut [u8]) {
 
 pub(crate) fn run_cases(text: &[u8], json: &mut [u8]) {
     let mut at: usize = 0;
+    // stays: what the program prints may not change, and of a last line without its end the last byte is cut
     while at < text.len() {
         let end = behind_next(text, at, b'\n');
         run_line(part_of(text, at, end - 1), json);
