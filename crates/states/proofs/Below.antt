@@ -1,8 +1,5 @@
+use Rattle.std.proofs.Common.{ℕ, zero, suc, ◌≤◌, ◌<◌, ◌≡◌, subst, ◌⊎◌, inl, inr, arith}
 -- What holds below a number and at it holds below the next.
-use Prim.Native.Nat.{ℕ, zero, suc, ◌≤◌, ◌<◌}
-use mathlib.Core.Path.{◌≡◌, subst}
-use mathlib.Core.Logic.{◌⊎◌, inl, inr}
-use native.Mathlib.Omega.{arith}
 
 pub below-or-from : (j i : ℕ) → (j < i) ⊎ (i ≤ j)
 below-or-from j zero = inr (omega arith)

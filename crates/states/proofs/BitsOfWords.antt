@@ -1,14 +1,11 @@
 -- The bits of words: they make the word, what `|`, `&` and `!` make of them, the word of one bit, and the zeros below the lowest bit that
 -- is set.
-use Prim.Native.Nat.{ℕ, zero, suc, ◌+◌, ◌-◌, ◌*◌, ◌/◌, ◌%◌, ◌^◌, ◌≤◌, ◌<◌, min, max}
-use mathlib.Core.Path.{◌≡◌, refl, sym, ◌∙◌, ap, subst}
-use mathlib.Core.Bool.{true, false, not, ◌&&◌, ◌||◌, false≢true}
-use native.Mathlib.Nat.{pow-succ', div-one, zero-div, not-suc-le-zero, le_of_suc-le-suc}
-use native.Mathlib.Omega.{arith}
+use Rattle.std.proofs.Common.{ℕ, zero, suc, ◌+◌, ◌-◌, ◌*◌, ◌/◌, ◌%◌, ◌^◌, ◌≤◌, ◌<◌, min, max, ◌≡◌, refl, sym, ◌∙◌, ap, subst, true, false, not, ◌&&◌, ◌||◌, div-one, not-suc-le-zero, le_of_suc-le-suc, arith, eqb, shr_lt, shr-shr}
+use mathlib.Core.Bool.{false≢true}
+use native.Mathlib.Nat.{pow-succ', zero-div}
 use lib.Bits.{bit_and, bit_or, and_step, or_step, and_shr, or_shr}
 use lib.Count.{count_trailing_zeros, under}
-use lib.Dec.{eqb, eqb-zero-suc, eqb-suc-zero, eqb-suc-suc}
-use lib.Pow.{shr_lt, shr-shr}
+use lib.Dec.{eqb-zero-suc, eqb-suc-zero, eqb-suc-suc}
 use Rattle.matching.specs.Machinery.Rows.{word_bit}
 use Rattle.matching.proofs.Rows.{bit-behind}
 

@@ -1,17 +1,10 @@
 -- Sets of bytes as rows of two words: a byte put into one, the next one in it, and which bytes are to be tried.
-use Prim.Native.Nat.{ℕ, ◌+◌, ◌-◌, ◌*◌, ◌/◌, ◌%◌, ◌^◌, ◌≤◌, ◌<◌}
-use mathlib.Core.Path.{◌≡◌, refl, sym, ◌∙◌, ap, ap₂}
-use mathlib.Core.Bool.{Bool, true, false, not, ◌&&◌, ◌||◌, or-false, false≢true}
-use mathlib.Core.List.{List, [], ◌∷◌}
-use mathlib.Core.Logic.{◌⊎◌, inl, inr}
-use native.Mathlib.Omega.{arith}
+use Rattle.std.proofs.Common.{ℕ, ◌+◌, ◌-◌, ◌*◌, ◌/◌, ◌%◌, ◌^◌, ◌≤◌, ◌<◌, ◌≡◌, refl, sym, ◌∙◌, ap, ap₂, Bool, true, false, not, ◌&&◌, ◌||◌, List, [], ◌∷◌, ◌⊎◌, inl, inr, arith, eqb, length, get_or, set, get_or-set_same, get_or-set_other, eqb-true, ne_eqb}
+use mathlib.Core.Bool.{or-false, false≢true}
 use lib.Arith.{lt_of_le-ne}
 use lib.Bits.{bit_or}
 use lib.Count.{count_trailing_zeros}
-use lib.Dec.{eqb}
-use lib.ListN.{length, get_or, set}
-use lib.Seq.{get_or-set_same, get_or-set_other}
-use borrow.Author.Tests.{eqb-true, eqb-false, ne_eqb}
+use borrow.Author.Tests.{eqb-false}
 use Rattle.matching.specs.Machinery.Rows.{word_bit, row_bit}
 use Rattle.matching.proofs.MarkedRows.{row-at}
 use Rattle.states.specs.Machinery.Rows.{IsByte}

@@ -1,12 +1,8 @@
 -- Which bytes a code takes, by the cases of the code and of the byte.
-use Prim.Native.Nat.{ℕ, ◌+◌, ◌-◌, ◌*◌, ◌/◌, ◌%◌, ◌≤◌, ◌<◌}
-use mathlib.Core.Path.{◌≡◌, refl, sym, ◌∙◌, ap, ap₂}
-use mathlib.Core.Bool.{Bool, true, false, ◌&&◌, ◌||◌, or-false}
-use mathlib.Core.Logic.{◌⊎◌, inl, inr}
-use native.Mathlib.Omega.{arith}
+use Rattle.std.proofs.Common.{ℕ, ◌+◌, ◌-◌, ◌*◌, ◌/◌, ◌%◌, ◌≤◌, ◌<◌, ◌≡◌, refl, sym, ◌∙◌, ap, ap₂, Bool, true, false, ◌&&◌, ◌||◌, ◌⊎◌, inl, inr, arith, eqb, leb, leb-true, leb-false, eqb-true, eq-eqb, ne_eqb}
+use mathlib.Core.Bool.{or-false}
 use lib.Arith.{lt_of_le-ne}
-use lib.Dec.{eqb, leb}
-use borrow.Author.Tests.{leb-true, leb-false, eqb-true, eqb-false, eq-eqb, ne_eqb}
+use borrow.Author.Tests.{eqb-false}
 use Rattle.stored.specs.Choice.{pick}
 use Rattle.matching.specs.Machinery.Codes.{one_code, takes_byte}
 use Rattle.matching.specs.Symbols.{fold_byte}

@@ -1,11 +1,6 @@
 -- The set of the bytes that follow others: it is built byte by byte, rows that are the same have the same set, and each byte of it leads
 -- where a smaller one leads.
-use Prim.Native.Nat.{ℕ, ◌-◌, ◌<◌}
-use mathlib.Core.Path.{◌≡◌, refl, sym, ◌∙◌, subst}
-use mathlib.Core.Bool.{Bool, true, false}
-use mathlib.Core.List.{List}
-use native.Mathlib.Omega.{arith}
-use lib.ListN.{replicate}
+use Rattle.std.proofs.Common.{ℕ, ◌-◌, ◌<◌, ◌≡◌, refl, sym, ◌∙◌, subst, Bool, true, false, List, arith, replicate}
 use Rattle.matching.specs.Machinery.Rows.{row_bit}
 use Rattle.matching.proofs.Rows.{row_zero}
 use Rattle.states.specs.Machinery.Rows.{IsByte, Tells}

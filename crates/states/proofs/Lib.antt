@@ -13,5 +13,4 @@ pub mod MarkedBytes
 pub mod TakenRows
 pub mod Trying
 pub mod StringsOfRows
-pub mod Clearing
 pub mod OneLaying

@@ -1,16 +1,9 @@
 -- Marking a position in the rows of bytes: the row of a byte is marked and every other word stays.
-use Prim.Native.Nat.{ℕ, ◌+◌, ◌*◌, ◌/◌, ◌%◌, ◌^◌, ◌≤◌, ◌<◌}
-use mathlib.Core.Path.{◌≡◌, refl, sym, ◌∙◌, ap, ap₂}
-use mathlib.Core.Bool.{Bool, true, false, ◌&&◌}
-use mathlib.Core.List.{List}
-use mathlib.Core.Logic.{◌⊎◌, inl, inr}
-use native.Mathlib.Omega.{arith}
+use Rattle.std.proofs.Common.{ℕ, ◌+◌, ◌*◌, ◌/◌, ◌%◌, ◌^◌, ◌≤◌, ◌<◌, ◌≡◌, refl, sym, ◌∙◌, ap, ap₂, Bool, true, false, ◌&&◌, List, ◌⊎◌, inl, inr, arith, eqb, ltb, length, get_or, take, drop, set, length-set, get_or-set_other, drop-set-lt, lt-ltb, le-ltb, eqb-true, ne_eqb}
 use lib.Arith.{lt_of_le-ne}
 use lib.Bits.{bit_or}
-use lib.Dec.{eqb, ltb}
-use lib.ListN.{length, get_or, take, drop, set, length-set}
-use lib.Seq.{get_or-set_other, take-set-le, take-set-lt, drop-set-lt, drop-set-add}
-use borrow.Author.Tests.{lt-ltb, le-ltb, eqb-true, eqb-false, ne_eqb}
+use lib.Seq.{take-set-le, take-set-lt, drop-set-add}
+use borrow.Author.Tests.{eqb-false}
 use Rattle.matching.specs.Machinery.Rows.{row_bit, mark_row}
 use Rattle.states.specs.Machinery.Bytes.{SetOf}
 use Rattle.states.specs.Machinery.Rows.{taken_at, stars_at, row_at, IsByte, taken_laid}

@@ -1,11 +1,5 @@
 -- The bytes that positions name, bit by bit of a word of a row and word by word.
-use Prim.Native.Nat.{ℕ, ◌+◌, ◌-◌, ◌*◌, ◌≤◌, ◌<◌}
-use mathlib.Core.Path.{◌≡◌, ◌∙◌, ap}
-use mathlib.Core.Bool.{true}
-use mathlib.Core.List.{List}
-use mathlib.Core.Logic.{◌⊎◌, inl, inr}
-use native.Mathlib.Omega.{arith}
-use lib.ListN.{get_or}
+use Rattle.std.proofs.Common.{ℕ, ◌+◌, ◌-◌, ◌*◌, ◌≤◌, ◌<◌, ◌≡◌, ◌∙◌, ap, true, List, ◌⊎◌, inl, inr, arith, get_or}
 use Rattle.matching.specs.Machinery.Codes.{takes_byte}
 use Rattle.matching.specs.Machinery.Rows.{row_bit}
 use Rattle.matching.proofs.MarkedRows.{row-at}

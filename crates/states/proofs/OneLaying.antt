@@ -1,12 +1,6 @@
 -- Laying down which positions take which byte has one outcome: two contents of the workspace that the contract of `lay_taken` permits, for
 -- the same codes and the same words before, are the same.
-use Prim.Native.Nat.{ℕ, ◌+◌, ◌-◌, ◌*◌, ◌/◌, ◌≤◌, ◌<◌}
-use mathlib.Core.Path.{◌≡◌, refl, sym, ◌∙◌, ap, subst}
-use mathlib.Core.List.{List}
-use mathlib.Core.Logic.{◌⊎◌, inl, inr}
-use native.Mathlib.Omega.{arith}
-use lib.ListN.{get_or, take, drop}
-use lib.Seq.{get_or-take, get_or-drop, ext_get_or}
+use Rattle.std.proofs.Common.{ℕ, ◌+◌, ◌-◌, ◌*◌, ◌/◌, ◌≤◌, ◌<◌, ◌≡◌, refl, sym, ◌∙◌, ap, subst, List, ◌⊎◌, inl, inr, arith, get_or, take, drop, get_or-take, get_or-drop, ext_get_or}
 use Rattle.matching.specs.Machinery.Rows.{word_bit}
 use Rattle.matching.specs.Machinery.Words.{taken_row}
 use Rattle.matching.proofs.MarkedRows.{row-at}

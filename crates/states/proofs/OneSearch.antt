@@ -1,13 +1,7 @@
 -- A search has one outcome. Row by row, two searches by the same codes have found the same row by the same step, since a step that one of
 -- them has found a row by was tried by the other too, or comes later than those it was found by; and neither can stop before the other.
-use Prim.Native.Nat.{ℕ, zero, suc, ◌+◌, ◌-◌, ◌*◌, ◌/◌, ◌%◌, ◌≤◌, ◌<◌}
-use mathlib.Core.Path.{◌≡◌, refl, sym, ◌∙◌, ap, subst}
+use Rattle.std.proofs.Common.{ℕ, zero, suc, ◌+◌, ◌-◌, ◌*◌, ◌/◌, ◌%◌, ◌≤◌, ◌<◌, ◌≡◌, refl, sym, ◌∙◌, ap, subst, List, ◌⊎◌, inl, inr, arith, length, get_or, get_or-drop, ext_get_or}
 use Rattle.std.specs.Prelude.{Option, None, Some}
-use mathlib.Core.List.{List}
-use mathlib.Core.Logic.{◌⊎◌, inl, inr}
-use native.Mathlib.Omega.{arith}
-use lib.ListN.{length, get_or}
-use lib.Seq.{get_or-drop, ext_get_or}
 use Rattle.matching.specs.Machinery.Rows.{step_row}
 use Rattle.states.specs.Machinery.Rows.{most_states, keys_at, codes_at, row_at, key_at, IsByte}
 use Rattle.states.specs.Machinery.Search.{step_from, rows_laid, Partial, Explored, Exceeded, FoundAll, Explores}

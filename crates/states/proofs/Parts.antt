@@ -1,11 +1,7 @@
 -- Parts of words that lie where nothing was changed.
-use Prim.Native.Nat.{ℕ, zero, suc, ◌+◌, ◌≤◌}
-use mathlib.Core.Path.{◌≡◌, refl, sym, ap, ◌∙◌}
-use mathlib.Core.List.{List, [], ◌∷◌}
-use native.Mathlib.Omega.{arith}
-use lib.ListN.{length, take, drop, set}
+use Rattle.std.proofs.Common.{ℕ, zero, suc, ◌+◌, ◌≤◌, ◌≡◌, refl, sym, ap, ◌∙◌, List, [], ◌∷◌, arith, length, take, drop, set, take-take, drop-set-lt}
 use borrow.Rule.Slice.PartMut.{put_mid}
-use lib.Seq.{sets, sets-eq, take-length, take-take, take-nil, take-set-le, drop-set-lt}
+use lib.Seq.{sets, sets-eq, take-length, take-nil, take-set-le}
 use Rattle.std.proofs.lemmas.Slice.{put_mid-paste}
 
 -- a part that lies where two lists agree

@@ -1,16 +1,11 @@
 -- Rows and keys in the words of a workspace: a row or a key that is laid down is there, and every other one is as it was.
-use Prim.Native.Nat.{ℕ, zero, suc, ◌+◌, ◌-◌, ◌*◌, ◌/◌, ◌≤◌, ◌<◌, min}
-use mathlib.Core.Path.{◌≡◌, refl, sym, ◌∙◌, ap}
-use mathlib.Core.Bool.{true, false, false≢true}
+use Rattle.std.proofs.Common.{ℕ, zero, suc, ◌+◌, ◌-◌, ◌*◌, ◌/◌, ◌≤◌, ◌<◌, min, ◌≡◌, refl, sym, ◌∙◌, ap, true, false, List, [], ◌∷◌, ◌++◌, ◌⊎◌, inl, inr, arith, length, get_or, take, drop, set, length-take, length-drop, length-set, length-append, take-take, drop-drop, length-take-le, take_at, drop_at, get_or-take, get_or-drop, get_or-set_same, get_or-set_other, drop-set-lt, ext_get_or}
+use mathlib.Core.Bool.{false≢true}
 use Rattle.std.specs.Prelude.{Option, None, Some}
 use Rattle.std.specs.Option.{is_some}
-use mathlib.Core.List.{List, [], ◌∷◌, ◌++◌}
-use mathlib.Core.Logic.{◌⊎◌, inl, inr}
-use native.Mathlib.Omega.{arith}
-use lib.ListN.{length, get_or, take, drop, set, length-take, length-drop, length-set, length-append}
 use lib.Arith.{lt_of_le-ne}
 use Rattle.std.specs.Simd.{first_chunks}
-use lib.Seq.{take-take, drop-drop, sets, sets-eq, length-sets, length-take-le, take_at, drop_at, drop-append-le, get_or-take, get_or-drop, get_or-set_same, get_or-set_other, drop-set-lt, ext_get_or}
+use lib.Seq.{sets, sets-eq, length-sets, drop-append-le}
 use Rattle.states.specs.Machinery.Rows.{most_states, keys_at, codes_at, row_at, key_at}
 use Rattle.states.specs.Machinery.Search.{FirstAt, Untouched}
 use Rattle.states.proofs.Below.{below-or-from}

@@ -1,11 +1,6 @@
 -- One step of a search: it leads to a row that is there, or its row is laid down with the step's number as its key, or there is no room
 -- left for it. In each case what a partial search promises holds for one step more.
-use Prim.Native.Nat.{ℕ, zero, suc, ◌+◌, ◌*◌, ◌/◌, ◌%◌, ◌≤◌, ◌<◌}
-use mathlib.Core.Path.{◌≡◌, refl, sym, ◌∙◌, ap, ap₂, subst}
-use mathlib.Core.List.{List}
-use mathlib.Core.Logic.{◌⊎◌, inl, inr}
-use native.Mathlib.Omega.{arith}
-use lib.ListN.{length, take, drop}
+use Rattle.std.proofs.Common.{ℕ, zero, suc, ◌+◌, ◌*◌, ◌/◌, ◌%◌, ◌≤◌, ◌<◌, ◌≡◌, refl, sym, ◌∙◌, ap, ap₂, subst, List, ◌⊎◌, inl, inr, arith, length, take, drop}
 use Rattle.matching.specs.Machinery.Rows.{first_row, step_row, pack}
 use Rattle.states.specs.Machinery.Rows.{most_states, codes_at, codes_laid, row_at, key_at, IsByte}
 use Rattle.std.specs.Prelude.{Option}

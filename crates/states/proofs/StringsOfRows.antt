@@ -1,15 +1,8 @@
 -- The string of a row, read off the keys: it is the older row's string and one byte more, however much the reading may take; and it can be
 -- laid down from its last byte on.
-use Prim.Native.Nat.{ℕ, zero, suc, ◌+◌, ◌/◌, ◌%◌, ◌≤◌, ◌<◌}
-use mathlib.Core.Path.{◌≡◌, refl, sym, ◌∙◌, ap}
-use mathlib.Core.Bool.{Bool, true, false}
-use mathlib.Core.List.{List, [], ◌∷◌, ◌++◌}
-use native.Mathlib.Nat.{add-zero}
-use native.Mathlib.Omega.{arith}
-use lib.Dec.{eqb}
-use lib.ListN.{length, set, length-append}
+use Rattle.std.proofs.Common.{ℕ, zero, suc, ◌+◌, ◌/◌, ◌%◌, ◌≤◌, ◌<◌, ◌≡◌, refl, sym, ◌∙◌, ap, Bool, true, false, List, [], ◌∷◌, ◌++◌, add-zero, arith, eqb, length, set, length-append, ne_eqb}
 use lib.Seq.{sets, set_comm}
-use borrow.Author.Tests.{eqb-false, ne_eqb}
+use borrow.Author.Tests.{eqb-false}
 use Rattle.stored.specs.Choice.{pick}
 use Rattle.matching.specs.Machinery.Rows.{forward}
 use Rattle.states.specs.Machinery.Rows.{key_at}

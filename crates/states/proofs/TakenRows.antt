@@ -1,11 +1,8 @@
 -- The rows of the bytes in the workspace: laid down position by position, they say which positions take each byte and which
 -- bytes follow others, and a step by these rows is a step by the codes.
-use Prim.Native.Nat.{ℕ, suc, ◌+◌, ◌-◌, ◌*◌, ◌/◌, ◌≤◌, ◌<◌}
-use mathlib.Core.Path.{◌≡◌, refl, sym, ◌∙◌, ap, ap₂, subst}
-use mathlib.Core.List.{List, [], ◌∷◌, ◌++◌}
-use native.Mathlib.Omega.{arith}
-use lib.ListN.{length, get_or, take, drop, replicate, length-take, length-drop, length-append, length-replicate, get_or-replicate, get_or-append}
-use lib.Seq.{sets, length-sets, length-take-le, take_at, drop_at, drop-cons, drop-drop, get_or-take, get_or-drop, get_or-append-add, ext_get_or}
+use Rattle.std.proofs.Common.{ℕ, suc, ◌+◌, ◌-◌, ◌*◌, ◌/◌, ◌≤◌, ◌<◌, ◌≡◌, refl, sym, ◌∙◌, ap, ap₂, subst, List, [], ◌∷◌, ◌++◌, arith, length, get_or, take, drop, replicate, length-take, length-drop, length-append, length-take-le, take_at, drop_at, drop-cons, drop-drop, get_or-take, get_or-drop, get_or-append-add, ext_get_or}
+use lib.ListN.{length-replicate, get_or-replicate, get_or-append}
+use lib.Seq.{sets, length-sets}
 use Rattle.matching.specs.Machinery.Rows.{pack}
 use Rattle.matching.specs.Machinery.Words.{taken_bit, taken_row, star_row, words_row}
 use Rattle.matching.proofs.Rows.{upto}

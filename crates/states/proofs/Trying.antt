@@ -1,12 +1,8 @@
 -- A byte that is not tried leads from a row where a smaller one leads, so that nothing is left to try: it follows that one, or no position
 -- that stands ahead names either of the two.
-use Prim.Native.Nat.{ℕ, zero, suc, ◌+◌, ◌-◌, ◌*◌, ◌/◌, ◌≤◌, ◌<◌}
-use mathlib.Core.Path.{◌≡◌, refl, sym, ◌∙◌, ap, subst}
-use mathlib.Core.Bool.{Bool, true, false, false≢true}
-use mathlib.Core.List.{List}
-use mathlib.Core.Logic.{◌⊎◌, inl, inr}
-use native.Mathlib.Omega.{arith}
-use lib.ListN.{get_or, get_or-eq_default}
+use Rattle.std.proofs.Common.{ℕ, zero, suc, ◌+◌, ◌-◌, ◌*◌, ◌/◌, ◌≤◌, ◌<◌, ◌≡◌, refl, sym, ◌∙◌, ap, subst, Bool, true, false, List, ◌⊎◌, inl, inr, arith, get_or}
+use mathlib.Core.Bool.{false≢true}
+use lib.ListN.{get_or-eq_default}
 use Rattle.matching.specs.Machinery.Codes.{takes_byte}
 use Rattle.matching.specs.Machinery.Rows.{row_bit, step_row}
 use Rattle.matching.specs.Machinery.Words.{taken_row, ahead_row}

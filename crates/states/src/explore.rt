@@ -71,8 +71,8 @@ fn try_bytes(words: &mut [u64], positions: usize, i: usize, n: usize) -> Option<
     Some(found)
 }
 
-// All states of the strings of a column, given the codes of its positions: how many there are, or none where they pass 512. Only the words
-// of their rows and keys change.
+/// All states of the strings of a column, given the codes of its positions: how many there are, or none where they pass 512. Only the words
+/// of their rows and keys change.
 pub fn explore(words: &mut [u64], positions: usize) -> Option<usize>
     requires { Searchable positions words.old }
     ensures { Explores (codes_laid positions words.old) words.old words.new result }

@@ -1,6 +1,6 @@
 // How many states a column may have (RULES 7.3), the bytes of strings, and how the workspace is laid out.
 
-// The states of a column.
+/// The states of a column.
 pub const MOST_STATES: usize = 512;
 
 // The bytes of strings.
@@ -21,7 +21,7 @@ pub const STARS: usize = 5872;
 
 pub const FOLLOWERS: usize = 5880;
 
-// The row of byte b is number TAKEN_ROW + b: that of the first byte, 33, begins at 5,120.
+/// The row of byte b is number TAKEN_ROW + b: that of the first byte, 33, begins at 5,120.
 pub const TAKEN_ROW: usize = 607;
 
 pub const STARS_ROW: usize = 734;

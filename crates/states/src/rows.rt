@@ -4,14 +4,14 @@ ghost use Rattle.std.proofs.lemmas.List.Edits.{sets};
 ghost use Rattle.states.specs.Machinery.Rows.{row_at};
 ghost use Rattle.states.specs.Machinery.Search.{FirstAt};
 
-// All words are zero.
+/// All words are zero.
 pub fn clear(words: &mut [u64])
     ensures { words.new ≡ replicate (length words.old) 0 }
 {
     words.fill(0);
 }
 
-// Row i.
+/// Row i.
 pub fn row_at(words: &[u64], i: usize) -> [u64; 8]
     requires { i * 8 + 8 ≤ length words.now }
     ensures { result ≡ row_at words.now i }

@@ -5,7 +5,7 @@ ghost use Rattle.states.specs.Machinery.Search.{HasString, string_of};
 
 use crate::limits::KEYS;
 
-// The length of the string of row i.
+/// The length of the string of row i.
 pub fn string_length(words: &[u64], i: usize, n: usize) -> usize
     requires { HasString words.now i n }
     ensures { result ≡ length (string_of words.now i) }
@@ -20,7 +20,7 @@ pub fn string_length(words: &[u64], i: usize, n: usize) -> usize
     size
 }
 
-// Lays the string of row i down at a place, and answers its length.
+/// Lays the string of row i down at a place, and answers its length.
 pub fn lay_string(words: &[u64], i: usize, n: usize, values: &mut [u8], at: usize) -> usize
     requires { HasString words.now i n × (at + 512 ≤ length values.old) }
     ensures laid { values.new ≡ sets values.old at (string_of words.now i) }

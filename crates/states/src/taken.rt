@@ -79,7 +79,7 @@ fn lay_followers(words: &mut [u64])
     words[FOLLOWERS..FOLLOWERS + 2].copy_from_slice(&set.words);
 }
 
-// Which positions take which byte, for the codes that are laid down.
+/// Which positions take which byte, for the codes that are laid down.
 pub fn lay_taken(words: &mut [u64], positions: usize)
     requires { (positions ≤ 512) × (prints_at ≤ length words.old) }
     ensures { LaysTaken (codes_laid positions words.old) words.old words.new }

@@ -1,7 +1,5 @@
 -- All steps from the rows before the one at hand were tried: that is the invariant. The loop ends when the row at hand is behind the last.
-use Prim.Native.Nat.{◌-◌, ◌*◌, ◌≤◌}
-use mathlib.Core.Path.{◌≡◌}
-use lib.ListN.{length, drop}
+use Rattle.std.proofs.Common.{◌-◌, ◌*◌, ◌≤◌, ◌≡◌, length, drop}
 use Rattle.states.specs.Machinery.Rows.{codes_at, codes_laid}
 use Rattle.states.specs.Machinery.Search.{Partial, Untouched}
 use Rattle.states.proofs.explore.explore.Given as goal

@@ -1,10 +1,5 @@
 -- The row that the step leads to is looked for among those that were found; where it is new it goes behind them.
-use Prim.Native.Nat.{ℕ, ◌+◌, ◌-◌, ◌*◌, ◌/◌, ◌<◌}
-use mathlib.Core.Path.{◌≡◌, refl, sym, ap, ap₂, ◌∙◌, subst}
-use mathlib.Core.List.{List}
-use native.Mathlib.Numerals.{add-one}
-use native.Mathlib.Omega.{arith}
-use lib.ListN.{length, take, drop, set}
+use Rattle.std.proofs.Common.{ℕ, ◌+◌, ◌-◌, ◌*◌, ◌/◌, ◌<◌, ◌≡◌, refl, sym, ap, ap₂, ◌∙◌, subst, List, add-one, arith, length, take, drop, set}
 use Rattle.matching.specs.Machinery.Words.{words_row}
 use Rattle.states.specs.Machinery.Rows.{IsByte, most_states, keys_at, codes_at, codes_laid, row_at, stars_laid}
 use Rattle.states.specs.Machinery.Search.{step_from, Searchable, Partial, Untouched}

@@ -1,7 +1,5 @@
 -- The string of the row at hand is still to be laid down, in front of what is there already: that is the invariant.
-use Prim.Native.Nat.{◌<◌}
-use mathlib.Core.Path.{◌≡◌}
-use lib.ListN.{length}
+use Rattle.std.proofs.Common.{◌<◌, ◌≡◌, length}
 use lib.Seq.{sets}
 use Rattle.matching.specs.Machinery.Rows.{forward}
 use Rattle.states.specs.Machinery.Search.{chain, string_of}

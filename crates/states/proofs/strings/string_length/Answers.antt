@@ -1,7 +1,4 @@
-use Prim.Native.Nat.{ℕ}
-use mathlib.Core.Path.{◌≡◌, ap}
-use native.Mathlib.Omega.{arith}
-use lib.ListN.{length}
+use Rattle.std.proofs.Common.{ℕ, ◌≡◌, ap, arith, length}
 use Rattle.states.specs.Machinery.Search.{chain}
 use Rattle.states.proofs.StringsOfRows.{chain-parent, length-forward}
 use Rattle.states.proofs.strings.string_length.Goals as goal

@@ -1,7 +1,5 @@
 -- What is counted so far and the string of the row at hand make the whole length: that is the invariant.
-use Prim.Native.Nat.{◌+◌, ◌≤◌, ◌<◌}
-use mathlib.Core.Path.{◌≡◌}
-use lib.ListN.{length}
+use Rattle.std.proofs.Common.{◌+◌, ◌≤◌, ◌<◌, ◌≡◌, length}
 use Rattle.states.specs.Machinery.Search.{chain}
 use Rattle.states.proofs.strings.string_length.Given as goal
 

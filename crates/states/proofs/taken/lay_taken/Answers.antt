@@ -1,9 +1,5 @@
 -- The rows of the bytes, then the row of the stars behind them, then the set of the bytes that follow others.
-use Prim.Native.Nat.{ℕ, ◌+◌, ◌-◌}
-use mathlib.Core.Path.{ap, ◌∙◌, subst}
-use mathlib.Core.List.{List}
-use native.Mathlib.Omega.{arith}
-use lib.ListN.{take, drop}
+use Rattle.std.proofs.Common.{ℕ, ◌+◌, ◌-◌, ap, ◌∙◌, subst, List, arith, take, drop}
 use Rattle.matching.specs.Machinery.Words.{star_row}
 use Rattle.states.specs.Machinery.Rows.{codes_at}
 use Rattle.states.specs.Machinery.Taken.{FollowersSet}

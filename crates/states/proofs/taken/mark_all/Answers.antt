@@ -1,5 +1,4 @@
-use Rattle.std.proofs.Common.{ℕ, ◌+◌, List, sym, subst, ltb, true, arith}
-use borrow.Author.Tests.{lt-ltb, le-ltb}
+use Rattle.std.proofs.Common.{ℕ, ◌+◌, List, sym, subst, ltb, true, arith, lt-ltb, le-ltb}
 use Rattle.states.specs.Machinery.Taken.{Marks}
 use Rattle.states.proofs.MarkedBytes.{marks-none, marks-as, marks-next}
 use Rattle.states.proofs.taken.mark_all.Goals as goal

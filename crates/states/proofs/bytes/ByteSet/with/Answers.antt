@@ -1,9 +1,7 @@
 -- The bit of the byte is set in its word; a number over 127 is no byte.
-use Rattle.std.proofs.Common.{◌≡◌, ℕ, ◌*◌, ◌/◌, ◌%◌, ◌^◌, sym, ap, ◌∙◌, subst, arith, get_or, set, eqb}
-use native.Mathlib.Nat.{one-mul, mod-eq_of_lt}
+use Rattle.std.proofs.Common.{◌≡◌, ℕ, ◌*◌, ◌/◌, ◌%◌, ◌^◌, sym, ap, ◌∙◌, subst, arith, get_or, set, eqb, one-mul, mod-eq_of_lt, ne_eqb}
 use lib.Bits.{bit_or}
 use lib.Pow.{pow-lt}
-use borrow.Author.Tests.{ne_eqb}
 use Rattle.states.specs.Machinery.Bytes.{Adds}
 use Rattle.states.proofs.ByteSets.{adds-byte, adds_none}
 use Rattle.states.proofs.bytes.ByteSet.with.Goals as goal
