@@ -1,4 +1,5 @@
 use Rattle.std.proofs.Common.{ℕ, zero, suc, ◌≤◌, ◌<◌, ◌≡◌, subst, ◌⊎◌, inl, inr, arith}
+
 -- What holds below a number and at it holds below the next.
 
 pub below-or-from : (j i : ℕ) → (j < i) ⊎ (i ≤ j)

@@ -1,16 +1,14 @@
 -- Sets of bytes as rows of two words: a byte put into one, the next one in it, and which bytes are to be tried.
-use Rattle.std.proofs.Common.{ℕ, ◌+◌, ◌-◌, ◌*◌, ◌/◌, ◌%◌, ◌^◌, ◌≤◌, ◌<◌, ◌≡◌, refl, sym, ◌∙◌, ap, ap₂, Bool, true, false, not, ◌&&◌, ◌||◌, List, [], ◌∷◌, ◌⊎◌, inl, inr, arith, eqb, length, get_or, set, get_or-set_same, get_or-set_other, eqb-true, ne_eqb}
-use mathlib.Core.Bool.{or-false, false≢true}
-use lib.Arith.{lt_of_le-ne}
+use Rattle.std.proofs.Common.{ℕ, ◌+◌, ◌-◌, ◌*◌, ◌/◌, ◌%◌, ◌^◌, ◌≤◌, ◌<◌, ◌≡◌, refl, sym, ◌∙◌, ap, ap₂, Bool, true, false, ◌||◌, List, [], ◌∷◌, ◌⊎◌, inl, inr, arith, eqb, length, get_or, set, get_or-set_same, get_or-set_other, eqb-true, ne_eqb}
+use mathlib.Core.Bool.{or-false}
 use lib.Bits.{bit_or}
 use lib.Count.{count_trailing_zeros}
 use borrow.Author.Tests.{eqb-false}
 use Rattle.matching.specs.Machinery.Rows.{word_bit, row_bit}
 use Rattle.matching.proofs.MarkedRows.{row-at}
-use Rattle.states.specs.Machinery.Rows.{IsByte}
-use Rattle.std.specs.Prelude.{None, Some}
+use Rattle.std.specs.Prelude.{None}
 use Rattle.matching.proofs.Rows.{row_zero}
-use Rattle.states.specs.Machinery.Bytes.{Adds, SetOf, Lowest, NextBit, NextByte, ToTry}
+use Rattle.states.specs.Machinery.Bytes.{Adds, SetOf, Lowest, NextBit, NextByte}
 use Rattle.states.proofs.Below.{below-or-from}
 use Rattle.states.proofs.BitsOfWords.{bit-or, bit-power, bit-left, trailing-here, left-zeros, left-few}
 use Rattle.states.proofs.CodeBytes.{eqb_same}
@@ -140,74 +138,3 @@ module _ (row : List ℕ) (from : ℕ) (none : (k : ℕ) → from ≤ k → k < 
 
   pub next-none : NextBit (get_or row 1 0) (from - 64) None → NextByte row from None
   next-none next x h l = none-before 64 next x h (omega arith) (omega arith)
-
--- the bytes to try: those named and the lowest that is not, without those that follow others
-module _ (named followers unnamed free all : List ℕ)
-    (turned : (x : ℕ) → x < 128 → row_bit unnamed x ≡ not (row_bit named x)) (others : (x : ℕ) → x < 128 → row_bit free x ≡ not (row_bit followers x)) where
-  unturned : (n u : Bool) → u ≡ not n → u ≡ true → n ≡ false
-  unturned true u e w = absurd (false≢true (sym e ∙ w))
-  unturned false u e w = refl
-
-  -- what is not tried and follows no other byte was not to be tried
-  left_out : (more : List ℕ) → ((x : ℕ) → x < 128 → row_bit all x ≡ (row_bit more x && row_bit free x))
-      → (x : ℕ) → x < 128 → row_bit all x ≡ false → (row_bit followers x ≡ true) ⊎ (row_bit more x ≡ false)
-  left_out more both x few none = by (row_bit more x) (row_bit followers x) refl refl (sym (both x few ∙ ap (λ (t : Bool). row_bit more x && t) (others x few)) ∙ none)
-    where
-      by : (m f : Bool) → row_bit more x ≡ m → row_bit followers x ≡ f → (row_bit more x && not (row_bit followers x)) ≡ false
-          → (row_bit followers x ≡ true) ⊎ (row_bit more x ≡ false)
-      by true true em ef w = inl ef
-      by true false em ef w = absurd (false≢true (sym w ∙ ap₂ (λ (m f : Bool). m && not f) em ef))
-      by false f em ef w = inr em
-
-  -- all bytes of strings are named
-  pub to-try_named : NextByte unnamed 33 None → ((x : ℕ) → x < 128 → row_bit all x ≡ (row_bit named x && row_bit free x)) → ToTry named followers all
-  to-try_named every both x byte none =
-      let high = byte.1 in
-      by (left_out named both x (omega arith) none)
-    where
-      by : (row_bit followers x ≡ true) ⊎ (row_bit named x ≡ false)
-          → (row_bit followers x ≡ true) ⊎ ((row_bit named x ≡ false) × ((a : ℕ) × IsByte a × (a < x) × (row_bit named a ≡ false)))
-      by (inl follows) = inl follows
-      by (inr lacks) =
-          let high = byte.1 in
-          absurd (false≢true (sym (every x byte.0 (omega arith)) ∙ turned x (omega arith) ∙ ap not lacks))
-
-  -- one is not
-  module _ (lowest : ℕ) (more : List ℕ) (next : NextByte unnamed 33 (Some lowest)) (adds : Adds named (λ x. eqb x lowest) more)
-      (both : (x : ℕ) → x < 128 → row_bit all x ≡ (row_bit more x && row_bit free x)) where
-    neither : (n l : Bool) → (n || l) ≡ false → (n ≡ false) × (l ≡ false)
-    neither true l e = absurd (false≢true (sym e))
-    neither false l e = (refl, e)
-
-    lower : (x : ℕ) → IsByte x → row_bit named x ≡ false → eqb x lowest ≡ false → lowest < x
-    lower x byte none other = by (below-or-from x lowest)
-      where
-        by : (x < lowest) ⊎ (lowest ≤ x) → lowest < x
-        by (inl less) =
-            let high = byte.1 in
-            absurd (false≢true (sym (next.between x byte.0 less) ∙ turned x (omega arith) ∙ ap not none))
-        by (inr from) = lt_of_le-ne from (λ w. eqb-false x lowest other (sym w))
-
-    pub to-try : ToTry named followers all
-    to-try x byte none =
-        let high = byte.1 in
-        by (left_out more both x (omega arith) none)
-      where
-        by : (row_bit followers x ≡ true) ⊎ (row_bit more x ≡ false)
-            → (row_bit followers x ≡ true) ⊎ ((row_bit named x ≡ false) × ((a : ℕ) × IsByte a × (a < x) × (row_bit named a ≡ false)))
-        by (inl follows) = inl follows
-        by (inr lacks) =
-            let high = byte.1 in
-            let low = next.low in
-            let under = next.high in
-            let parts = neither (row_bit named x) (eqb x lowest) (sym (adds x (omega arith)) ∙ lacks) in
-            let less = lower x byte parts.0 parts.1 in
-            inr (
-              parts.0,
-              (
-                lowest,
-                (omega arith, omega arith),
-                less,
-                unturned (row_bit named lowest) (row_bit unnamed lowest) (turned lowest (omega arith)) next.here,
-              ),
-            )

@@ -72,9 +72,6 @@ returns-in_err-n c =
       answer = search-answers a.positions a.words.now l.words c.try_bytes.new.words l.n ((l.row + 1) * 128) None same searched;
     }
 
-pub loop-row-smaller : goal.loop-row-smaller
-loop-row-smaller c = omega (arith, c.loop-row.invariant.3.few)
-
 pub loop-row-preserved : goal.loop-row-preserved
 loop-row-preserved c =
     let l = c.loop-row in
@@ -86,9 +83,6 @@ loop-row-preserved c =
       search-answers a.positions laid l.words c.try_bytes.new.words l.n ((l.row + 1) * 128) (Some c.in_ok-n.n) l.invariant.2 c.in_ok-n.ensures,
       untouched-both laid l.words c.try_bytes.new.words l.n c.in_ok-n.n c.in_ok-n.ensures.more l.invariant.4 c.in_ok-n.ensures.untouched,
     )
-
-pub shape_of-words : goal.shape_of-words
-shape_of-words c = c.loop-row.invariant.1 ∙ c.put_row.auto.words
 
 pub returns : goal.returns
 returns c =

@@ -1,8 +1,8 @@
-use Rattle.std.proofs.Common.{◌≡◌, ℕ, ◌+◌, ◌*◌, List, refl, sym, ap, ◌∙◌, subst, arith, take, Some}
+use Rattle.std.proofs.Common.{◌≡◌, ℕ, ◌+◌, ◌*◌, List, refl, sym, ap, ◌∙◌, subst, arith, take, None, Some}
 use Rattle.states.specs.declared.bytes.ByteSet.{ByteSet}
 use Rattle.states.specs.declared.bytes.Bytes.{Bytes}
-use Rattle.states.specs.Machinery.Rows.{codes_laid, row_at}
-use Rattle.states.specs.Machinery.Search.{Enough, Partial}
+use Rattle.states.specs.Machinery.Rows.{most_states, codes_laid, row_at}
+use Rattle.states.specs.Machinery.Search.{Enough, Partial, Searched}
 use Rattle.states.proofs.RowsInWords.{untouched-same, untouched-both}
 use Rattle.states.proofs.Stepping.{search-later, search-answers}
 use Rattle.states.proofs.TakenRows.{searchable-stays}
@@ -51,6 +51,19 @@ try_step-requires c =
           (every codes c.bytes_from.result l.b-iterator.set c.row_at-from.result (row_at l.words a.i) c.bytes_from.ensures set (c.row_at-from.ensures ∙ sym l.invariant.row))
           l.b-iterator.from c.in-Some.b l.invariant.low up (omega arith) next.between l.invariant.partial),
     )
+
+pub returns-in_err-found : goal.returns-in_err-found
+returns-in_err-found c =
+    let l = c.loop-b in
+    let a = c.args in
+    let searched = c.in_err-found.ensures.searched in
+    subst (Searched a.positions a.words.now c.try_step.new.words a.n ((a.i + 1) * 128)) (sym c.from_residual.ensures)
+    record {
+      kept = searched.kept ∙ l.invariant.kept;
+      untouched = untouched-both a.words.now l.words c.try_step.new.words l.found most_states searched.more l.invariant.untouched searched.untouched;
+      more = omega (arith, searched.more, l.invariant.more);
+      answer = search-answers a.positions a.words.now l.words c.try_step.new.words l.found (a.i * 128 + c.in-Some.b + 1) None l.invariant.kept searched;
+    }
 
 pub loop-b-preserved : goal.loop-b-preserved
 loop-b-preserved c =

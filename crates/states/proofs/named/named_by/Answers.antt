@@ -1,8 +1,7 @@
 -- By the cases of the code.
 use Rattle.std.proofs.Common.{◌∙◌, ap, arith, eqb}
 use Rattle.matching.specs.Machinery.Codes.{takes_byte}
-use Rattle.matching.specs.Symbols.{fold_byte}
-use Rattle.states.proofs.CodeBytes.{names-none, names-far, names-exact, names-folded}
+use Rattle.states.proofs.CodeBytes.{names-none, names-far, names-exact}
 use Rattle.states.proofs.ByteSets.{set-none, set-added}
 use Rattle.states.proofs.named.named_by.Goals as goal
 
@@ -21,8 +20,3 @@ returns-then-code-eq0 c =
     let code = c.args.code in
     set-added (λ x. eqb x c.in-Ok.b) (takes_byte code) c.with.result.words c.with.ensures
     (λ x few. ap (eqb x) c.in-Ok.ensures.1 ∙ names-exact code x (omega arith) c.if-code-eq0.true)
-
-pub returns-else-code-eq0 : goal.returns-else-code-eq0
-returns-else-code-eq0 c =
-    let code = c.args.code in
-    λ x few. c.folded.ensures x few ∙ ap (eqb (fold_byte x)) c.in-Ok.ensures.1 ∙ names-folded code x (omega arith) c.if-code-eq0.false

@@ -11,13 +11,6 @@ loop-row-init c =
     let a = c.args in
     (c.requires.0.low, c.string_length-size.ensures ∙ length-forward (chain a.i a.words.now a.i), refl, refl)
 
-pub overflow_sub-left : goal.overflow_sub-left
-overflow_sub-left c = omega (
-  arith,
-  c.loop-row.invariant.1
-      ∙ ap length (chain-parent c.args.words.now c.args.n c.requires.0.keyed c.loop-row.row c.loop-row-test.true c.loop-row.invariant.0),
-)
-
 pub overflow_add-values : goal.overflow_add-values
 overflow_add-values c = omega (
   arith,
@@ -36,9 +29,6 @@ bounds-values-at c = omega (
   c.requires.1,
   c.requires.0.few,
 )
-
-pub loop-row-smaller : goal.loop-row-smaller
-loop-row-smaller c = c.requires.0.keyed.parent c.loop-row.row c.loop-row-test.true c.loop-row.invariant.0
 
 pub loop-row-preserved : goal.loop-row-preserved
 loop-row-preserved c =
@@ -59,13 +49,3 @@ loop-row-preserved c =
           ∙ ap (λ (r : List ℕ). sets l.values a.at (forward r)) (sym more)
           ∙ l.invariant.3,
     )
-
-pub shape_of-values : goal.shape_of-values
-shape_of-values c = c.loop-row.invariant.2
-
-pub returns : goal.returns
-returns c =
-    let l = c.loop-row in
-    let w = c.args.words.now in
-    let none : l.row ≡ 0 = omega arith in
-    record { laid = sym (ap (λ (row : ℕ). sets l.values c.args.at (forward (chain row w row))) none) ∙ l.invariant.3; size = c.string_length-size.ensures }

@@ -3,12 +3,6 @@ use Rattle.states.specs.Machinery.Search.{chain}
 use Rattle.states.proofs.StringsOfRows.{chain-parent, length-forward}
 use Rattle.states.proofs.strings.string_length.Goals as goal
 
-pub loop-row-init : goal.loop-row-init
-loop-row-init c = (c.requires.low, omega arith, omega arith)
-
-pub loop-row-smaller : goal.loop-row-smaller
-loop-row-smaller c = c.requires.keyed.parent c.loop-row.row c.loop-row-test.true c.loop-row.invariant.0
-
 pub loop-row-preserved : goal.loop-row-preserved
 loop-row-preserved c =
     let l = c.loop-row in

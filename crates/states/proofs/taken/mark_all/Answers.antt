@@ -1,6 +1,6 @@
-use Rattle.std.proofs.Common.{ℕ, ◌+◌, List, sym, subst, ltb, true, arith, lt-ltb, le-ltb}
+use Rattle.std.proofs.Common.{ℕ, ◌+◌, List, sym, subst, ltb, arith, le-ltb}
 use Rattle.states.specs.Machinery.Taken.{Marks}
-use Rattle.states.proofs.MarkedBytes.{marks-none, marks-as, marks-next}
+use Rattle.states.proofs.MarkedBytes.{marks-none, marks-next}
 use Rattle.states.proofs.taken.mark_all.Goals as goal
 
 pub loop-b-init : goal.loop-b-init
@@ -14,9 +14,3 @@ loop-b-preserved c =
     let l = c.loop-b in
     subst (λ (w : List ℕ). Marks a.words.now w a.p (λ x. ltb x (l.b + 1))) (sym c.mark_at.ensures)
     (marks-next a.words.now l.words a.p l.b c.requires.0 (omega (arith, l.auto.words, c.requires.1)) (omega arith, omega arith) l.invariant)
-
-pub returns : goal.returns
-returns c =
-    let a = c.args in
-    let l = c.loop-b in
-    marks-as a.words.now l.words a.p (λ x. ltb x l.b) (λ x. true) l.invariant (λ x byte. let high = byte.1 in lt-ltb x l.b (omega arith))

@@ -1,16 +1,9 @@
-use Rattle.std.proofs.Common.{ℕ, ◌+◌, List, refl, ap, sym, ◌∙◌, subst, arith, true}
+use Rattle.std.proofs.Common.{ℕ, ◌+◌, List, refl, ap, sym, ◌∙◌, subst, arith}
 use Rattle.states.specs.declared.bytes.ByteSet.{ByteSet}
 use Rattle.states.specs.declared.bytes.Bytes.{Bytes}
-use Rattle.states.specs.Machinery.Bytes.{SetOf}
-use Rattle.states.specs.Machinery.Taken.{takes, Marks}
-use Rattle.states.proofs.CodeBytes.{takes_all, takes-named}
-use Rattle.states.proofs.MarkedBytes.{marks-as, below_in, marks_begin, marks_skip, marks_more, marks_end}
+use Rattle.states.specs.Machinery.Taken.{Marks}
+use Rattle.states.proofs.MarkedBytes.{below_in, marks_begin, marks_skip, marks_more}
 use Rattle.states.proofs.taken.mark_code.Goals as goal
-
-pub returns-then-code-eq-BEHIND_ONE : goal.returns-then-code-eq-BEHIND_ONE
-returns-then-code-eq-BEHIND_ONE c =
-    let a = c.args in
-    marks-as a.words.now c.mark_all.new.words a.p (λ x. true) (takes a.code) c.mark_all.ensures (λ x byte. takes_all a.code x c.if-code-eq-BEHIND_ONE.true)
 
 pub loop-b-init : goal.loop-b-init
 loop-b-init c =
@@ -41,11 +34,3 @@ loop-b-preserved c =
           (subst (λ (s : ByteSet). Marks a.words.now c.mark_at.new.words a.p (below_in s.words (b + 1))) (sym next.1)
           (subst (λ (w : List ℕ). Marks a.words.now w a.p (below_in set (b + 1))) (sym c.mark_at.ensures) marked));
     }
-
-pub returns : goal.returns
-returns c =
-    let a = c.args in
-    let l = c.loop-b in
-    let set = l.invariant.set ∙ ap (λ (s : Bytes). s.set) c.into_iter-b-iterator.ensures.into_iter_gives ∙ c.bytes-b-items.ensures.set in
-    marks_end a.words.now l.words a.p l.b-iterator.set.words l.b-iterator.from l.invariant.marks (takes a.code)
-    (subst (λ (s : ByteSet). SetOf (takes a.code) s.words) (sym set) (λ x few. c.named_by.ensures x few ∙ takes-named a.code x c.if-code-eq-BEHIND_ONE.false)) c.in-None.ensures.steps.0

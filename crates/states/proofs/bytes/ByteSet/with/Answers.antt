@@ -1,15 +1,10 @@
 -- The bit of the byte is set in its word; a number over 127 is no byte.
-use Rattle.std.proofs.Common.{◌≡◌, ℕ, ◌*◌, ◌/◌, ◌%◌, ◌^◌, sym, ap, ◌∙◌, subst, arith, get_or, set, eqb, one-mul, mod-eq_of_lt, ne_eqb}
+use Rattle.std.proofs.Common.{◌≡◌, ℕ, ◌*◌, ◌/◌, ◌%◌, ◌^◌, sym, ap, ◌∙◌, subst, arith, get_or, set, eqb, one-mul, mod-eq_of_lt}
 use lib.Bits.{bit_or}
 use lib.Pow.{pow-lt}
 use Rattle.states.specs.Machinery.Bytes.{Adds}
-use Rattle.states.proofs.ByteSets.{adds-byte, adds_none}
+use Rattle.states.proofs.ByteSets.{adds-byte}
 use Rattle.states.proofs.bytes.ByteSet.with.Goals as goal
-
-pub returns-then-b-gt127 : goal.returns-then-b-gt127
-returns-then-b-gt127 c =
-    let a = c.args in
-    adds_none a.self.words (λ x. eqb x a.b) (λ x few. ne_eqb x a.b (λ w. omega arith))
 
 pub returns : goal.returns
 returns c =
