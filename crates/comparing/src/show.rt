@@ -132,6 +132,7 @@ fn show_address(words: &[u64], tables: Tables, plans: Plans, print: u64) -> Opti
         return None;
     }
     let mut x: u64 = 0;
+    // stays: no plainer: x goes on from edge to edge.
     while x < NO_ADDRESS {
         if address_print(words, tables, plans, x) == print {
             return Some(x as u32);

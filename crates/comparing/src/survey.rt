@@ -34,6 +34,7 @@ pub struct States {
 }
 
 // Lays a footprint down behind those of its column, unless it is among them, and answers where they then end.
+// stays: project rule (fixed lent memory): the footprints of all columns lie in the workspace, one behind the other, and there is no list to push to.
 fn add_print(words: &mut [u64], from: usize, to: usize, print: u64) -> usize
     requires { (from ≤ to) × (prints_at + to < length words.old) }
     ensures { Added words.old words.new from to print result }
@@ -109,6 +110,7 @@ fn gather_addresses(words: &mut [u64], tables: Tables, from: usize, plans: Plans
     let absent = absent_print(tables.first, tables.second, ADDRESSES, tables.size);
     let mut to = add_print(words, from, from, absent);
     let mut x: u64 = 0;
+    // stays: no plainer: x goes on from edge to edge, and the words that the next edge is read from change on the way.
     while x < NO_ADDRESS {
         let print = address_print(words, tables, plans, x);
         to = add_print(words, from, to, print);
