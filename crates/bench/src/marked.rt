@@ -1,8 +1,8 @@
 // The lines marked P of the bench list, run. They are also proved together (`bench-matches` of judging).
 ghost use Rattle.std.specs.Prelude.{◌≤◌, length};
 
-use judging::judge::{Judgement, judge};
-use judging::request::Present;
+use judging::judge::{Verdict, judge};
+use judging::request::Request;
 use matching::network::in_network;
 use matching::reading::Reading;
 use matching::value::value_matches;
@@ -19,7 +19,7 @@ fn run_value(value: &[u8], string: &[u8])
     requires { length value.now ≤ 511 }
 {
     print_quoted(value);
-    if value_matches(value, 0, value.len(), Reading::Plain, string) {
+    if value_matches(value, Reading::Plain, string) {
         io::write_all(1, b" takes ");
     } else {
         io::write_all(1, b" refuses ");
@@ -42,32 +42,30 @@ fn run_network(network: u32, length: u8, address: u32) {
     io::write_all(1, b"\n");
 }
 
-// The judge's answer to a request without any key.
-fn judged(table: &[u8]) -> Judgement {
-    let none = Present {
-        vpc: false,
-        prefix: false,
-        vpce: false,
-        referer: false,
-        address: false,
-    };
-    judge(table, b"p", b"a", b"r", none, b"", b"", b"", b"", 0)
-}
-
-// Whether the only condition of a table that allows all else holds for an absent address.
+// Whether the only condition of a table that allows all else holds for an absent address: a request without any key is judged.
 fn run_absent(name: &[u8], table: &[u8]) {
+    let request = Request {
+        principal: b"p",
+        action: b"a",
+        resource: b"r",
+        vpc: None,
+        prefix: None,
+        vpce: None,
+        referer: None,
+        address: None,
+    };
     io::write_all(1, name);
-    match judged(table) {
-        Judgement::Allowed => {
+    match judge(table, request) {
+        Ok(Verdict::Allowed) => {
             io::write_all(1, b" with an absent address is true\n");
         }
-        Judgement::NotMentioned => {
+        Ok(Verdict::NotMentioned) => {
             io::write_all(1, b" with an absent address is false\n");
         }
-        Judgement::DeniedByRule => {
+        Ok(Verdict::DeniedByRule) => {
             io::write_all(1, b" denies\n");
         }
-        Judgement::Refused(_, _) => {
+        Err(_) => {
             io::write_all(1, b" is refused\n");
         }
     }
