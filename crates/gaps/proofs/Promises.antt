@@ -1,7 +1,5 @@
 -- What the gap program promises beyond its functions' contracts, in statements that can be read without their proofs.
-use Prim.Native.Nat.{ℕ}
-use mathlib.Core.Path.{◌≡◌, refl}
-use mathlib.Core.List.{List, [], ◌∷◌}
+use Rattle.std.proofs.Common.{ℕ, ◌≡◌, refl, List, [], ◌∷◌}
 use Rattle.judging.specs.Requests.{absent, text, number}
 use Rattle.judging.specs.Judging.{rows_of}
 use Rattle.comparing.specs.Gaps.{IsGap}

@@ -12,7 +12,7 @@ ghost use Rattle.comparing.specs.Compared.{shown_bytes, request_shown};
 use comparing::answers::{Refused, Shape};
 use printing::{put, put_decimal, put_named, put_number};
 
-// Bytes that a line has at most.
+/// Bytes that a line has at most.
 pub const LINE: usize = 4096;
 
 // Lays an address down in dotted decimal.
@@ -67,7 +67,7 @@ fn put_column(
     }
 }
 
-// The line for a number of gaps.
+/// The line for a number of gaps.
 pub fn count_line(out: &mut [u8], n: u64) -> usize
     requires { 4096 ≤ length out.old }
     ensures { Laid out.old 0 (count_line n) 26 out.new result }
@@ -76,7 +76,7 @@ pub fn count_line(out: &mut [u8], n: u64) -> usize
     put(out, next, b"\n")
 }
 
-// The line for a refusal.
+/// The line for a refusal.
 pub fn refusal_line(out: &mut [u8], refused: Refused) -> usize
     requires { 4096 ≤ length out.old }
     ensures { Laid out.old 0 (refusal_line (number_of refused.reason) (table_of refused.table) refused.place) 71 out.new result }
@@ -110,7 +110,7 @@ fn put_keys(out: &mut [u8], at: usize, values: &[u8], shape: Shape) -> usize
     put_column(out, vpce, b" k3=", values, 6, shape.referer)
 }
 
-// The line for gap k, whose values stand in the value buffer.
+/// The line for gap k, whose values stand in the value buffer.
 pub fn gap_line(out: &mut [u8], k: u64, values: &[u8], shape: Shape) -> usize
     requires { (4096 ≤ length out.old) × (3584 ≤ length values.now) }
     ensures { Laid out.old 0 (gap_line k (request_shown (as_shape shape) values.now)) 4096 out.new result }

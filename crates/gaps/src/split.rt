@@ -43,7 +43,7 @@ fn pass(input: &[u8], at: usize) -> ControlFlow<usize, usize>
     pass_kind(input, at + 1, size_of(kind), kind)
 }
 
-// Where the first table ends: behind the first record 05 met by walking kinds, or at the end of the input where there is none.
+/// Where the first table ends: behind the first record 05 met by walking kinds, or at the end of the input where there is none.
 pub fn split(input: &[u8]) -> usize
     ensures value { result ≡ first_end input.now }
     ensures upper_bound { result ≤ length input.now }

@@ -1,12 +1,6 @@
 -- The fewest digits that hold a number are the number in decimal.
-use Prim.Native.Nat.{ℕ, zero, suc, ◌-◌, ◌*◌, ◌/◌, ◌%◌, ◌^◌, ◌≤◌, ◌<◌}
-use mathlib.Core.Path.{◌≡◌, refl, ap}
-use mathlib.Core.Bool.{Bool, true, false}
-use mathlib.Core.List.{List, [], ◌∷◌, ◌++◌}
-use native.Mathlib.Omega.{arith}
-use native.Mathlib.Nat.{pow-suc, pow-le-pow_right, div-lt_iff_lt-mul, le-div_iff_mul-le, mod-lt, mod-eq_of_lt}
-use lib.Dec.{ltb}
-use borrow.Author.Tests.{lt-ltb, le-ltb, ltb-true, ltb-false}
+use Rattle.std.proofs.Common.{ℕ, zero, suc, ◌-◌, ◌*◌, ◌/◌, ◌%◌, ◌^◌, ◌≤◌, ◌<◌, ◌≡◌, refl, ap, Bool, true, false, List, [], ◌∷◌, ◌++◌, arith, pow-suc, div-lt_iff_lt-mul, le-div_iff_mul-le, mod-lt, mod-eq_of_lt, ltb, lt-ltb, le-ltb, ltb-true, ltb-false}
+use native.Mathlib.Nat.{pow-le-pow_right}
 use Rattle.io.specs.Digits.{hex_digit_ascii, last_digits, IsDigitCount}
 use Rattle.printing.specs.Decimals.{digit, decimal_digits, decimal_of}
 

@@ -1,11 +1,7 @@
 -- Runs of bytes laid down one behind the other are one run.
-use Prim.Native.Nat.{ℕ, suc, ◌+◌, ◌≤◌}
-use mathlib.Core.Path.{◌≡◌, refl, sym, ◌∙◌, ap}
-use mathlib.Core.List.{List, [], ◌∷◌, ◌++◌}
+use Rattle.std.proofs.Common.{ℕ, suc, ◌+◌, ◌≤◌, ◌≡◌, refl, sym, ◌∙◌, ap, List, [], ◌∷◌, ◌++◌, arith, length, length-append, set}
 use borrow.Rule.Slice.PartMut.{put_mid}
 use Rattle.std.proofs.lemmas.Slice.{put_mid-paste}
-use native.Mathlib.Omega.{arith}
-use lib.ListN.{length, length-append, set}
 use lib.Seq.{sets, sets-eq, take-length}
 use Rattle.printing.specs.Laying.{Laid}
 

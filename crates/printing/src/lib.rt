@@ -6,6 +6,8 @@ ghost use Rattle.std.specs.Prelude.{◌≡◌, ◌++◌, ◌+◌, ◌≤◌, len
 ghost use Rattle.printing.specs.Decimals.{decimal_of};
 ghost use Rattle.printing.specs.Laying.{Laid};
 
+// stays: what may not change: docs/PROMISES.md names put, put_named, put_decimal and put_number, each with the buffer and the place
+
 /// Lays bytes down at a place.
 pub fn put(out: &mut [u8], at: usize, bytes: &[u8]) -> usize
     requires { at + length bytes.now ≤ length out.old }

@@ -1,6 +1,5 @@
 -- The first table ends inside the input.
-use mathlib.Core.Path.{sym}
-use lib.Seq.{length-take-le}
+use Rattle.std.proofs.Common.{sym, length-take-le}
 use Rattle.gaps.proofs.compare.Goals as goal
 
 pub slice_bounds-first-end : goal.slice_bounds-first-end

@@ -1,7 +1,5 @@
 -- The line lies inside its buffer.
-use mathlib.Core.Path.{sym}
-use native.Mathlib.Omega.{arith}
-use lib.Seq.{length-take-le}
+use Rattle.std.proofs.Common.{sym, arith, length-take-le}
 use Rattle.gaps.proofs.print_refusal.Goals as goal
 
 pub slice_bounds-write_all-end : goal.slice_bounds-write_all-end

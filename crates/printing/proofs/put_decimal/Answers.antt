@@ -1,6 +1,5 @@
 -- The library's digits are the number in decimal, and there are at most 20.
-use mathlib.Core.Path.{◌∙◌}
-use native.Mathlib.Omega.{arith}
+use Rattle.std.proofs.Common.{◌∙◌, arith}
 use Rattle.printing.proofs.Laying.{widened, relaid}
 use Rattle.printing.proofs.Decimal.{decimal, at-most-20}
 use Rattle.printing.proofs.put_decimal.Goals as goal

@@ -1,6 +1,6 @@
 -- The number, the columns that are there, and the line feed, each behind the one before it.
+use Rattle.std.proofs.Common.{arith}
 use Rattle.printing.proofs.Laying.{joined, widened}
-use native.Mathlib.Omega.{arith}
 use Rattle.gaps.specs.Lines.{gap_line}
 use Rattle.gaps.proofs.lines.gap_line.Goals as goal
 

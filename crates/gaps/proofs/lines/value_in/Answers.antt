@@ -1,5 +1,5 @@
 -- The column stands in its 512 bytes.
-use Rattle.std.proofs.Common.{◌≡◌, ℕ, ◌+◌, ◌-◌, ◌*◌, List, ◌∙◌, ap, arith, length, length-take, take, drop}
+use Rattle.std.proofs.Common.{◌≡◌, ℕ, ◌+◌, ◌-◌, ◌*◌, ◌∙◌, ap, arith, length-take, take, drop}
 use Rattle.std.proofs.lemmas.List.{take_min}
 use Rattle.gaps.proofs.lines.value_in.Goals as goal
 

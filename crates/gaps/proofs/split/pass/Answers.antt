@@ -1,5 +1,5 @@
 -- The kind and the size of its body are those of `passed_at`.
-use mathlib.Core.Path.{◌∙◌}
+use Rattle.std.proofs.Common.{◌∙◌}
 use Rattle.gaps.specs.Split.{passed_at}
 use Rattle.gaps.proofs.split.pass.Goals as goal
 

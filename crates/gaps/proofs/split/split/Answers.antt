@@ -1,8 +1,4 @@
-use Prim.Native.Nat.{◌-◌}
-use mathlib.Core.Path.{sym, ◌∙◌}
-use native.Mathlib.Omega.{arith}
-use lib.ListN.{length}
-use borrow.Author.Rules.{rules}
+use Rattle.std.proofs.Common.{◌-◌, sym, ◌∙◌, arith, length, rules}
 use Rattle.gaps.proofs.Splitting.{goes-inside, ends-inside, goes, ends, at-end, begins}
 use Rattle.gaps.proofs.split.split.Goals as goal
 

@@ -1,7 +1,5 @@
 -- The loop keeps where the walk from the place at hand ends, which is where the whole walk ends; each record moves the place on.
-use Prim.Native.Nat.{◌≤◌, ◌-◌}
-use mathlib.Core.Path.{◌≡◌}
-use lib.ListN.{length}
+use Rattle.std.proofs.Common.{◌≤◌, ◌-◌, ◌≡◌, length}
 use Rattle.gaps.specs.Split.{end_from, first_end}
 use Rattle.gaps.proofs.split.split.Given as goal
 
