@@ -1,16 +1,33 @@
 -- The string of a row, read off the keys: it is the older row's string and one byte more, however much the reading may take; and it can be
 -- laid down from its last byte on.
-use Rattle.std.proofs.Common.{ℕ, zero, suc, ◌+◌, ◌/◌, ◌%◌, ◌≤◌, ◌<◌, ◌≡◌, refl, sym, ◌∙◌, ap, Bool, true, false, List, [], ◌∷◌, ◌++◌, add-zero, arith, eqb, length, set, length-append, ne_eqb}
-use lib.Seq.{sets, set_comm}
-use borrow.Author.Tests.{eqb-false}
+use Rattle.std.proofs.Common.{ℕ, zero, suc, ◌+◌, ◌/◌, ◌%◌, ◌≤◌, ◌<◌, ◌≡◌, add-zero, refl, sym, ◌∙◌, ap, Bool, true, false, List, [], ◌∷◌, ◌++◌, arith, eqb, length, set, length-append, ne_eqb}
+use Rattle.std.proofs.lemmas.Bool.{eqb-false}
+use Rattle.std.proofs.lemmas.List.{set_comm}
+use Rattle.std.proofs.lemmas.List.Edits.{sets}
 use Rattle.stored.specs.Choice.{pick}
 use Rattle.matching.specs.Machinery.Rows.{forward}
 use Rattle.states.specs.Machinery.Rows.{key_at}
-use Rattle.states.specs.Machinery.Search.{Partial, Keyed, chain}
+use Rattle.states.specs.Machinery.Search.{Partial, Keyed, HasString, chain}
 
 -- the rows of a search have strings
 pub keyed : (codes words : List ℕ) (n t : ℕ) → Partial codes words n t → Keyed words n
 keyed codes words n t p = record { parent = p.parent; byte = p.byte }
+
+-- the string of a row is read off its own key and those of older rows
+pub own-string : (words : List ℕ) (i n : ℕ) → HasString words i n → HasString words i (i + 1)
+own-string words i n has =
+    record {
+      keyed = record { parent = λ j h low. has.keyed.parent j h (omega (arith, has.low)); byte = λ j h low. has.keyed.byte j h (omega (arith, has.low)) };
+      low = omega arith;
+      few = omega (arith, has.low, has.few);
+      room = has.room;
+    }
+
+-- a row that is not the first has an older one, whose string can be read off too
+pub older-string : (words : List ℕ) (i n : ℕ) → HasString words i n → 0 < i → HasString words (key_at words i / 128) (key_at words i / 128 + 1)
+older-string words i n has h =
+    own-string words (key_at words i / 128) n
+    (record { keyed = has.keyed; low = omega (arith, has.low, has.keyed.parent i h has.low); few = has.few; room = has.room })
 
 -- the first row's string is empty
 pub chain_first : (words : List ℕ) (fuel : ℕ) → chain fuel words 0 ≡ []

@@ -3,3 +3,4 @@ pub mod Rows
 pub mod Bytes
 pub mod Taken
 pub mod Search
+pub mod StringLeft

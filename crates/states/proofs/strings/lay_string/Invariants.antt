@@ -1,14 +1,15 @@
--- The string of the row at hand is still to be laid down, in front of what is there already: that is the invariant.
-use Rattle.std.proofs.Common.{◌<◌, ◌≡◌, length}
-use lib.Seq.{sets}
+-- The bytes that are left are still to be laid down, in front of those that are there already: that is the invariant.
+use Rattle.std.proofs.Common.{◌≡◌, ◌+◌, length}
+use Rattle.std.proofs.lemmas.List.Edits.{sets}
 use Rattle.matching.specs.Machinery.Rows.{forward}
-use Rattle.states.specs.Machinery.Search.{chain, string_of}
+use Rattle.states.specs.Machinery.Search.{string_of}
+use Rattle.states.specs.Machinery.StringLeft.{bytes_left}
 use Rattle.states.proofs.strings.lay_string.Given as goal
 
-abbrev pub invariant-loop-row : goal.invariant-loop-row
-invariant-loop-row l =
-    (l.row < l.n) × (l.left ≡ length (chain l.row l.words l.row)) × (length l.values ≡ length l.initial.values)
-    × (sets l.values l.at (forward (chain l.row l.words l.row)) ≡ sets l.initial.values l.at (string_of l.words l.i))
-
-abbrev pub decreases-loop-row : goal.decreases-loop-row
-decreases-loop-row l = l.row
+abbrev pub invariant-loop-place : goal.invariant-loop-place
+invariant-loop-place l =
+    let left = bytes_left l.place-iterator.b in
+    (l.place-iterator.a.iter.start ≡ l.at)
+    × (l.place-iterator.a.iter.end ≡ l.at + length left)
+    × goal.iterator-loop-place.can_next l.place-iterator
+    × (sets l.values l.at (forward left) ≡ sets l.initial.values l.at (string_of l.words l.i))

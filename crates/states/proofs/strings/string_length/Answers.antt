@@ -1,22 +1,21 @@
-use Rattle.std.proofs.Common.{ℕ, ◌≡◌, ap, arith, length}
+-- As many bytes come, the last one first, as the string has.
+use Rattle.std.proofs.Common.{ℕ, length, arith, refl, sym, ap, inl, ◌∙◌}
+use Rattle.std.proofs.Math.ListN.{length-map}
+use Rattle.std.proofs.lemmas.Iterator.{items_from_drains}
+use Rattle.std.proofs.lemmas.Iterator.Consumers.{YieldsList-from_first}
 use Rattle.states.specs.Machinery.Search.{chain}
-use Rattle.states.proofs.StringsOfRows.{chain-parent, length-forward}
+use Rattle.states.specs.Machinery.StringLeft.{bytes_left}
+use Rattle.states.proofs.StringsOfRows.{chain-short, length-forward}
 use Rattle.states.proofs.strings.string_length.Goals as goal
 
-pub loop-row-preserved : goal.loop-row-preserved
-loop-row-preserved c =
-    let l = c.loop-row in
-    let a = c.args in
-    let words = a.words.now in
-    let older = c.requires.keyed.parent l.row c.loop-row-test.true l.invariant.0 in
-    let more = ap length (chain-parent words a.n c.requires.keyed l.row c.loop-row-test.true l.invariant.0) in
-    (omega arith, omega arith, omega arith)
+pub count-requires-clause-fits : goal.count-requires-clause-fits
+count-requires-clause-fits c =
+    let short = chain-short c.args.words.now c.args.i c.args.i in
+    inl (omega (arith, short, c.ranges.i.fits))
 
 pub returns : goal.returns
 returns c =
-    let l = c.loop-row in
-    let a = c.args in
-    let words = a.words.now in
-    let none : l.row ≡ 0 = omega arith in
-    let empty = ap (λ (row : ℕ). length (chain row words row)) none in
-    omega (arith, length-forward (chain a.i words a.i))
+    let string = chain c.args.i c.args.words.now c.args.i in
+    let ran = c.count.ensures.ran in
+    let came = items_from_drains ran.0 (ran.1.1.0, ran.1.1.1, λ _. (ran.1.0, ran.1.1.2)) (YieldsList-from_first (λ (b : ℕ). b) bytes_left string refl) in
+    ran.2 ∙ sym (length-map ran.0 (λ b. b)) ∙ ap length came ∙ sym (length-forward string)
