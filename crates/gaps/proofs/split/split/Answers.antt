@@ -1,5 +1,5 @@
-use Rattle.std.proofs.Common.{◌-◌, sym, ◌∙◌, arith, length, rules}
-use Rattle.gaps.proofs.Splitting.{goes-inside, ends-inside, goes, ends, at-end, begins}
+use Rattle.std.proofs.Common.{sym, ◌∙◌, arith, rules}
+use Rattle.gaps.proofs.Splitting.{goes-inside, ends-inside, goes, ends, begins}
 use Rattle.gaps.proofs.split.split.Goals as goal
 
 pub loop-at-init : goal.loop-at-init
@@ -23,9 +23,3 @@ pub returns-in-Break : goal.returns-in-Break
 returns-in-Break c =
     let more = c.loop-at-test.true in
     let passed = sym c.pass.ensures ∙ c.in-Break.is in record { value = sym (ends c.args.input.now c.loop-at.at c.in-Break.end more passed) ∙ c.loop-at.invariant.1; upper_bound = ends-inside c.args.input.now c.loop-at.at c.in-Break.end more passed }
-
-pub returns : goal.returns
-returns c =
-    let t = c.args.input.now in
-    let at = c.loop-at.at in
-    record { value = sym (at-end (length t - at) t at c.loop-at-test.false) ∙ c.loop-at.invariant.1; upper_bound = search rules }
