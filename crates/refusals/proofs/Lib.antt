@@ -1,0 +1,2 @@
+-- What is promised of the numbers of refusals.
+pub mod Promises
