@@ -4,8 +4,8 @@
 #![tactic(auto)]
 
 ghost use Rattle.std.specs.Prelude.{◌≡◌, ◌<◌, is_some};
+ghost use Rattle.std.specs.Bool.{then_some};
 ghost use Rattle.refusals.specs.Numbers.{number_of};
-ghost use Rattle.stored.specs.Choice.{pick};
 ghost use Rattle.judging.specs.Requests.{request_of};
 ghost use Rattle.judging.specs.Judging.{judgement, as_judgement};
 ghost use Rattle.comparing.specs.Answers.{table_of, as_counting, as_shape, as_showing};
@@ -15,13 +15,11 @@ ghost use Rattle.portal.specs.Answers.{Counts, Shows, ReadsJson};
 
 use comparing::answers::{Refused, Shape, Side};
 use comparing::compare::{gap, gap_count};
+use comparing::limits::WORKSPACE_WORDS;
 use judging::judge::{Verdict, judge};
 use judging::request::Request;
 use policy::reader::read_json;
-use refusals::{Reason, Refusal};
-
-// The words of the workspace that a comparison brings.
-const WORKSPACE: usize = 8192;
+use refusals::Refusal;
 
 // The last place that the code of a policy's refusal has room for.
 const MOST_PLACE: u64 = 0xFFFFFFFFFFFFFF;
@@ -38,9 +36,9 @@ fn is_set(flags: u32, i: u32) -> bool
 // A key, which bit i of the flags says to be there or not.
 fn given<T: Copy>(flags: u32, i: u32, key: T) -> Option<T>
     requires { i < 32 }
-    ensures { result ≡ pick (is_set flags i) (Some key) None }
+    ensures { result ≡ then_some (is_set flags i) key }
 {
-    if is_set(flags, i) { Some(key) } else { None }
+    is_set(flags, i).then_some(key)
 }
 
 // The flag of a key that is there.
@@ -62,12 +60,12 @@ fn flags_of(shape: Shape) -> u64
 }
 
 // A refusal as a number.
-fn refusal_code(reason: Reason, table: Side, place: usize) -> u64
-    ensures { result ≡ refusal_code (number_of reason) (table_of table) place }
+fn refusal_code(refused: Refused) -> u64
+    ensures { result ≡ refusal_code (number_of refused.reason) (table_of refused.table) refused.place }
 {
-    u64::from(u8::from(table)) * 0x1000000000000
-        + u64::from(u8::from(reason)) * 0x100000000
-        + (place as u64) % 0x100000000
+    u64::from(u8::from(refused.table)) * 0x1000000000000
+        + u64::from(u8::from(refused.reason)) * 0x100000000
+        + (refused.place as u64) % 0x100000000
 }
 
 fn judgement_code(answer: Result<Verdict, Refusal>) -> u64
@@ -77,7 +75,11 @@ fn judgement_code(answer: Result<Verdict, Refusal>) -> u64
         Ok(Verdict::NotMentioned) => 0,
         Ok(Verdict::Allowed) => 1,
         Ok(Verdict::DeniedByRule) => 2,
-        Err(refusal) => refusal_code(refusal.reason, Side::Comparison, refusal.place),
+        Err(Refusal { reason, place }) => refusal_code(Refused {
+            reason,
+            table: Side::Comparison,
+            place,
+        }),
     }
 }
 
@@ -86,7 +88,7 @@ fn counting_code(answer: Result<u64, Refused>) -> u64
 {
     match answer {
         Ok(gaps) => gaps,
-        Err(refused) => refusal_code(refused.reason, refused.table, refused.place),
+        Err(refused) => refusal_code(refused),
     }
 }
 
@@ -102,7 +104,7 @@ fn showing_code(answer: Result<Shape, Refused>) -> u64
 {
     match answer {
         Ok(shape) => shape_code(shape),
-        Err(refused) => refusal_code(refused.reason, refused.table, refused.place),
+        Err(refused) => refusal_code(refused),
     }
 }
 
@@ -156,7 +158,7 @@ pub fn stamenhum_judge(
 pub fn stamenhum_gaps(first: &[u8], second: &[u8]) -> u64
     ensures { Counts first.now second.now result }
 {
-    let mut workspace = [0u64; WORKSPACE];
+    let mut workspace = [0u64; WORKSPACE_WORDS];
     counting_code(gap_count(&mut workspace, first, second))
 }
 
@@ -164,7 +166,7 @@ pub fn stamenhum_gaps(first: &[u8], second: &[u8]) -> u64
 pub fn stamenhum_gap(first: &[u8], second: &[u8], k: u64, values: &mut [u8]) -> u64
     ensures { Shows first.now second.now k values.old result values.new }
 {
-    let mut workspace = [0u64; WORKSPACE];
+    let mut workspace = [0u64; WORKSPACE_WORDS];
     showing_code(gap(&mut workspace, first, second, k, values))
 }
 
