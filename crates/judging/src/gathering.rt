@@ -19,7 +19,7 @@ use stored::operators::operator_row;
 fn is_allow(effect: Effect) -> bool
     ensures { result ≡ is_allow effect }
 {
-    matches!(effect, Effect::Allow)
+    effect == Effect::Allow
 }
 
 // A condition opens.

@@ -35,10 +35,7 @@ impl<'a> Value<'a> {
     fn of_address(address: Option<u32>) -> Value<'a>
         ensures { value_of result ≡ address_of address }
     {
-        match address {
-            Some(number) => Value::Number(number),
-            None => Value::Absent,
-        }
+        address.map_or(Value::Absent, Value::Number)
     }
 
     pub(crate) fn is_present(self) -> bool

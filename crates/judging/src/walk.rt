@@ -3,19 +3,24 @@
 
 use matching::reading::Reading;
 
+/// What is known of the rows behind the records passed.
 #[derive(Clone, Copy, Debug, PartialEq, Eq)]
 pub struct Walk {
-    // The bit of the row at hand, and of the next one.
+    /// The bit of the row at hand.
     pub bit: u64,
+    /// The bit of the next one.
     pub next: u64,
-    // The rows before it that hold.
+    /// The rows before it that hold.
     pub set: u64,
-    // The row at hand holds as far as its lists before the last go.
+    /// The row at hand holds as far as its lists before the last go.
     pub holds: bool,
-    // The last list opened is in this column; its sense; whether some value of it matched; how it is read.
+    /// The last list opened is in this column.
     pub here: bool,
+    /// Its sense.
     pub negated: bool,
+    /// Some value of it matched.
     pub some: bool,
+    /// How it is read.
     pub reading: Reading,
 }
 

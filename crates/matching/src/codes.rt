@@ -4,11 +4,12 @@ ghost use Rattle.matching.specs.Symbols.{symbol_of};
 ghost use Rattle.matching.specs.Machinery.Codes.{byte_code, symbol_code, takes_byte, takes_symbol};
 
 /// The code of the start of a value.
-// stays: fixed lent memory: codes are words of the workspace, and a step compares 64 of them at once.
+// stays: fixed lent memory: codes are laid down as words of the workspace, one for each position.
 pub const START: u64 = 1;
 
 pub(crate) const BEHIND_STAR: u64 = 2;
 
+/// The code of the position behind a `?`.
 pub const BEHIND_ONE: u64 = 3;
 
 pub(crate) const STAR: u8 = b'*';

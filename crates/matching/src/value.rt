@@ -38,6 +38,7 @@ fn rows_match(symbols: Symbols, string: &[u8]) -> bool
 {
     let mut row = row_of_value(symbols, true, 0, [0u64; 8]);
     for b in string {
+        // stays: tried and the proof does not close: the borrow checker does not cover a call's array laid in `row` itself.
         let next = row_of_value(symbols, false, *b, row);
         row = next;
     }
@@ -69,7 +70,7 @@ fn left_matches(symbols: Symbols, string: &[u8]) -> bool
     rest.is_empty()
 }
 
-// Whether the value, read as its column or operator reads it, matches the whole string.
+/// Whether the value, read as its column or operator reads it, matches the whole string.
 pub fn value_matches(value: &[u8], reading: Reading, string: &[u8]) -> bool
     requires { length value.now ≤ 511 }
     ensures { result ≡ value_matches reading value.now string.now }
