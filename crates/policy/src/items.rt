@@ -24,7 +24,7 @@ const ROOM: usize = 129;
 fn in_byte(count: usize) -> u8
     ensures { result ≡ at_most_255 count }
 {
-    count.min(255) as u8
+    u8::try_from(count).unwrap_or(u8::MAX)
 }
 
 // The refusal of a string that is no network, by its length, which need not be told above 129.
