@@ -18,7 +18,7 @@ use stored::machine::State;
 use stored::writer::{Writer, would_write, write};
 
 // Room for a value and one byte more.
-const ROOM: usize = 129;
+const ROOM: usize = MOST_LENGTH + 1;
 
 // A number of statements in one byte: over 255 they are refused as 255 are.
 fn in_byte(count: usize) -> u8
