@@ -43,15 +43,11 @@ fn one_more(most: u8, digit: u8, number: Option<u8>) -> Option<u8>
     ensures { result ≡ longer_of most digit number }
 {
     let more = match number {
-        None => u32::from(digit),
+        None => digit,
         Some(0) => return None,
-        Some(value) => u32::from(value) * 10 + u32::from(digit),
+        Some(value) => value.checked_mul(10)?.checked_add(digit)?,
     };
-    if more <= u32::from(most) {
-        Some(more as u8)
-    } else {
-        None
-    }
+    (more <= most).then_some(more)
 }
 
 // One byte: a digit; a dot, where the number becomes a byte of the address; a slash, where the address is whole and its length comes.
