@@ -9,22 +9,27 @@ use json_text::pieces::string_at;
 /// An address, and how many of its first bits count.
 #[derive(Clone, Copy, Debug, PartialEq, Eq)]
 pub struct Network {
+    /// The four bytes of the address, the first on top.
     pub address: u32,
+    /// How many of its first bits count.
     pub prefix: u8,
 }
 
+/// The part of a network's text at hand.
 #[derive(Clone, Copy, Debug, PartialEq, Eq)]
 pub enum Part {
-    // So many dots are still to come, and the address so far.
+    /// So many dots are still to come, and the address so far.
     Dotted(u8, u32),
-    // Behind the slash, with the whole address.
+    /// Behind the slash, with the whole address.
     Length(u32),
 }
 
 /// What is read of a text so far: the part at hand, and the decimal number in it, if it has a digit.
 #[derive(Clone, Copy, Debug, PartialEq, Eq)]
 pub struct Seen {
+    /// The part at hand.
     pub part: Part,
+    /// The number in it, if it has a digit.
     pub number: Option<u8>,
 }
 
