@@ -7,8 +7,10 @@ ghost use Rattle.members.specs.Machinery.States.{Meets};
 use crate::names::Name;
 use refusals::Reason;
 
+/// The members of an object that were met.
 #[derive(Clone, Copy, Debug, PartialEq, Eq)]
 pub struct Marks {
+    /// A bit for each, at the place as which it counts.
     pub bits: u16,
 }
 
