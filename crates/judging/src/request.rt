@@ -35,7 +35,11 @@ impl<'a> Value<'a> {
     fn of_address(address: Option<u32>) -> Value<'a>
         ensures { value_of result ≡ address_of address }
     {
-        address.map_or(Value::Absent, Value::Number)
+        // stays: tried and the proof does not close: the borrow checker does not cover `map_or` where the result's lifetime is in no argument.
+        match address {
+            Some(number) => Value::Number(number),
+            None => Value::Absent,
+        }
     }
 
     pub(crate) fn is_present(self) -> bool
