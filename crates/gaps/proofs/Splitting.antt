@@ -1,10 +1,11 @@
 -- Walking kinds: each record passed leads to a later place inside the input, so that more fuel than the bytes left changes nothing.
-use Rattle.std.proofs.Common.{ℕ, zero, suc, ◌+◌, ◌-◌, ◌≤◌, ◌<◌, ◌≡◌, refl, sym, ◌∙◌, Bool, true, false, List, arith, ltb, length, get_or, lt-ltb, le-ltb, ltb-true, ltb-false}
+use Rattle.std.proofs.Common.{ℕ, zero, suc, ◌+◌, ◌-◌, ◌≤◌, ◌<◌, ◌≡◌, ◌≢◌, refl, sym, ◌∙◌, ap, Bool, true, false, List, ◌∷◌, arith, ltb, length, get_or, drop, length-drop, drop-drop, add-zero, lt-ltb, le-ltb, ltb-true, ltb-false}
+use Rattle.std.proofs.lemmas.List.{get_or-drop}
 use Rattle.stored.specs.Choice.{pick}
 use Rattle.stored.specs.Records.{kind_of, size_of}
 use Rattle.stored.specs.declared.records.Kind.{Kind}
 use Rattle.stored.specs.declared.records.Kind.TheVariants as K
-use Rattle.gaps.specs.Split.{behind_body, passed_kind, passed_at, after_passed, end_from, first_end}
+use Rattle.gaps.specs.Split.{behind_body, passed_kind, passed_at, after_passed, end_from}
 use Rattle.std.specs.declared.ops.ControlFlow.{ControlFlow}
 use Rattle.std.specs.declared.ops.ControlFlow.TheVariants.{Continue, Break}
 
@@ -36,17 +37,13 @@ unfolding passed_at
 record-inside t at h = kind-inside t (at + 1) (size_of (kind_of (get_or t at 0))) (kind_of (get_or t at 0)) (omega arith)
 
 -- the next record is a later one
-pub goes-inside : (t : List ℕ) (at next : ℕ) → at < length t → passed_at t at ≡ Continue next → (at < next) × (next ≤ length t)
+goes-inside : (t : List ℕ) (at next : ℕ) → at < length t → passed_at t at ≡ Continue next → (at < next) × (next ≤ length t)
 goes-inside t at next h e =
     let i : Inside t (at + 1) (Continue next) = rw e at (record-inside t at h) in
     (omega arith, i.1)
 
--- the first table ends inside the input
-pub ends-inside : (t : List ℕ) (at end : ℕ) → at < length t → passed_at t at ≡ Break end → end ≤ length t
-ends-inside t at end h e = rw e at (record-inside t at h)
-
 -- at the end of the input the walk has met no 05, whatever the fuel
-pub at-end : (f : ℕ) (t : List ℕ) (at : ℕ) → length t ≤ at → end_from f t at ≡ length t
+at-end : (f : ℕ) (t : List ℕ) (at : ℕ) → length t ≤ at → end_from f t at ≡ length t
 at-end zero t at h = refl
 at-end (suc f) t at h = rw (le-ltb at (length t) h)
 
@@ -69,22 +66,67 @@ enough (suc f) (suc g) t at hf hg = by_place (ltb at (length t)) refl (λ p h. e
     by_place true e go = by-record (passed_at t at) (ltb-true at (length t) e) refl go
     by_place false e go = refl
 
--- before the end the walk passes a record, and goes on after it
-after : (t : List ℕ) (at : ℕ) → at < length t → end_from (length t - at) t at ≡ after_passed (end_from (length t - at) t) (passed_at t at)
-after t at h = enough (length t - at) (suc (length t - at)) t at (omega arith) (omega arith) ∙ rw (lt-ltb at (length t) h)
+-- no kind but two is passed in a way of its own
+other-kind : (t : List ℕ) (start size : ℕ) (k : Kind) → k ≢ K.End → k ≢ K.Unknown → passed_kind t start size k ≡ behind_body t start size
+other-kind t start size K.Start e u = refl
+other-kind t start size K.Statement e u = refl
+other-kind t start size K.Column e u = refl
+other-kind t start size K.Condition e u = refl
+other-kind t start size K.End e u = absurd (e refl)
+other-kind t start size K.Network e u = refl
+other-kind t start size (K.Value n) e u = refl
+other-kind t start size K.Unknown e u = absurd (u refl)
 
--- a record leads to the next
-pub goes : (t : List ℕ) (at next : ℕ) → at < length t → passed_at t at ≡ Continue next
-    → end_from (length t - at) t at ≡ end_from (length t - next) t next
-goes t at next h e =
-    let r = goes-inside t at next h e in
-    after t at h ∙ rw e (enough (length t - at) (length t - next) t next (omega arith) (omega arith))
+-- what is left of an input, from a record on: the walk goes on from there as the record's kind says
+module _ (t : List ℕ) (at byte : ℕ) (behind : List ℕ) (left : drop at t ≡ byte ∷ behind) where
+  abbrev pub body : ℕ
+  body = size_of (kind_of byte)
 
--- a record ends the walk
-pub ends : (t : List ℕ) (at end : ℕ) → at < length t → passed_at t at ≡ Break end → end_from (length t - at) t at ≡ end
-ends t at end h e = after t at h ∙ rw e
+  room : length t - at ≡ suc (length behind)
+  room = sym (length-drop at t) ∙ ap length left
 
--- the walk begins with the first byte
-pub begins : (t : List ℕ) → first_end t ≡ end_from (length t - 0) t 0
-unfolding first_end
-begins t = enough (length t) (length t - 0) t 0 (omega arith) (omega arith)
+  here : at < length t
+  here = omega (arith, room)
+
+  record-passed : passed_at t at ≡ passed_kind t (at + 1) body (kind_of byte)
+  unfolding passed_at
+  record-passed =
+      ap (λ (b : ℕ). passed_kind t (at + 1) (size_of (kind_of b)) (kind_of b))
+      (ap (λ (k : ℕ). get_or t k 0) (sym (add-zero at)) ∙ sym (get_or-drop at t 0 0) ∙ ap (λ (l : List ℕ). get_or l 0 0) left)
+
+  goes : end_from (suc (length behind)) t at ≡ after_passed (end_from (length behind) t) (passed_kind t (at + 1) body (kind_of byte))
+  goes = rw (lt-ltb at (length t) here) (ap (after_passed (end_from (length behind) t)) record-passed)
+
+  -- behind a record 05 the first table ends
+  pub ends-behind : kind_of byte ≡ K.End → end_from (suc (length behind)) t at ≡ at + 1
+  ends-behind e = goes ∙ ap (λ (k : Kind). after_passed (end_from (length behind) t) (passed_kind t (at + 1) body k)) e
+
+  -- an unknown kind ends the walk
+  pub ends-unknown : kind_of byte ≡ K.Unknown → end_from (suc (length behind)) t at ≡ length t
+  ends-unknown e = goes ∙ ap (λ (k : Kind). after_passed (end_from (length behind) t) (passed_kind t (at + 1) body k)) e
+
+  module _ (end : kind_of byte ≢ K.End) (unknown : kind_of byte ≢ K.Unknown) where
+    body-passed : end_from (suc (length behind)) t at ≡ after_passed (end_from (length behind) t) (behind_body t (at + 1) body)
+    body-passed = goes ∙ ap (after_passed (end_from (length behind) t)) (other-kind t (at + 1) body (kind_of byte) end unknown)
+
+    -- so does a body that the bytes end in
+    pub ends-inside : length behind < body → end_from (suc (length behind)) t at ≡ length t
+    ends-inside cut =
+        body-passed
+        ∙ ap (λ (b : Bool). after_passed (end_from (length behind) t) (pick b (Break (length t)) (Continue (at + 1 + body))))
+        (lt-ltb (length t - (at + 1)) body (omega (arith, room)))
+
+    -- behind every other body the walk goes on
+    pub goes-behind : (others : List ℕ) → others ≡ drop body behind → body ≤ length behind
+        → end_from (suc (length behind)) t at ≡ end_from (length others) t (at + 1 + body)
+    goes-behind others e whole =
+        body-passed
+        ∙ ap (λ (b : Bool). after_passed (end_from (length behind) t) (pick b (Break (length t)) (Continue (at + 1 + body))))
+        (le-ltb (length t - (at + 1)) body (omega (arith, room)))
+        ∙ enough (length behind) (length others) t (at + 1 + body) (omega (arith, room)) (omega (arith, room, ap length e, length-drop body behind))
+
+    -- what is left then
+    pub left-behind : (others : List ℕ) → others ≡ drop body behind → drop (at + 1 + body) t ≡ others
+    left-behind others e =
+        let place : at + 1 + body ≡ at + suc body = omega arith in
+        ap (λ (k : ℕ). drop k t) place ∙ sym (drop-drop (suc body) at t) ∙ ap (drop (suc body)) left ∙ sym e

@@ -5,7 +5,7 @@ use Rattle.json_text.specs.Machinery.Events.{event_of}
 use Rattle.json_text.specs.Machinery.Tokens.{marked, further, tokens_from}
 use Rattle.json_text.specs.declared.machine.Phase.{Phase}
 use Rattle.json_text.specs.declared.machine.State.{State}
-use Rattle.json_text.proofs.Comparing.{left}
+use Rattle.std.proofs.lemmas.List.{drop_more}
 
 -- one byte, whatever it leads to
 met : (t : List ℕ) (at : ℕ) (p : Phase) (w : ℕ) → at < length t
@@ -13,7 +13,7 @@ met : (t : List ℕ) (at : ℕ) (p : Phase) (w : ℕ) → at < length t
     ≡ marked (event_of p (get_or t at 0)) (length t - at) (drop (at + 1) t) (further (tokens_from (drop (at + 1) t)) (step_in p w (get_or t at 0)))
 met t at p w h =
     let place : suc (length (drop (at + 1) t)) ≡ length t - at = simp length-drop (omega arith) in
-    rw (left t at h)
+    rw (drop_more t at 0 h)
     (ap (λ (n : ℕ). marked (event_of p (get_or t at 0)) n (drop (at + 1) t) (further (tokens_from (drop (at + 1) t)) (step_in p w (get_or t at 0)))) place)
 
 module _ (t : List ℕ) (at : ℕ) (j : State) (h : at < length t) where

@@ -8,4 +8,5 @@ pub mod Pieces
 pub mod Events
 pub mod Tokens
 pub mod Marks
+pub mod TokensLeft
 pub mod Runs

@@ -2,24 +2,20 @@
 ghost use Rattle.std.specs.Prelude.{◌≡◌, ◌<◌, get_or, drop};
 ghost use Rattle.json_text.specs.Bytes.{hex_of};
 ghost use Rattle.json_text.specs.Choice.{same_bytes};
-ghost use Rattle.json_text.specs.Machinery.Pieces.{escape_of, piece_of, content_of};
+ghost use Rattle.json_text.specs.Machinery.Pieces.{escape_of, piece_of, content_of, bytes_left};
 
-/// A byte of a string, and how many bytes of the text it takes.
-#[derive(Clone, Copy, Debug, PartialEq, Eq)]
-pub struct Piece {
-    pub byte: u8,
-    pub wide: usize,
+// A byte of a string, and how many bytes of the text it takes.
+#[derive(Clone, Copy, Debug)]
+struct Piece {
+    byte: u8,
+    wide: usize,
 }
 
-/// The byte so far behind a place, 0 past the end.
-pub fn byte_behind(text: &[u8], at: usize, far: usize) -> u8
-    ensures { result ≡ get_or (drop at text.now) far 0 }
+// The byte at a place, 0 past the end.
+fn byte_or_zero(bytes: &[u8], place: usize) -> u8
+    ensures { result ≡ get_or bytes.now place 0 }
 {
-    if at < text.len() && far < text.len() - at {
-        text[at + far]
-    } else {
-        0
-    }
+    bytes.get(place).copied().unwrap_or(0)
 }
 
 fn hex_of(byte: u8) -> u8
@@ -34,37 +30,34 @@ fn hex_of(byte: u8) -> u8
 }
 
 // What stands behind a backslash.
-fn escape_at(text: &[u8], at: usize) -> Option<Piece>
-    ensures { result ≡ escape_of (drop at text.now) }
+fn escape_of(bytes: &[u8]) -> Piece
+    ensures { Some result ≡ escape_of bytes.now }
 {
-    let letter = byte_behind(text, at, 1);
-    if letter == b'u' {
-        let high = byte_behind(text, at, 4);
-        let low = byte_behind(text, at, 5);
-        Some(Piece {
-            byte: high % 8 * 16 + hex_of(low),
+    match byte_or_zero(bytes, 1) {
+        b'u' => Piece {
+            byte: byte_or_zero(bytes, 4) % 8 * 16 + hex_of(byte_or_zero(bytes, 5)),
             wide: 6,
-        })
-    } else {
-        Some(Piece {
-            byte: letter,
-            wide: 2,
-        })
+        },
+        byte => Piece { byte, wide: 2 },
     }
 }
 
-/// The byte of a string at a place inside it, if the string does not end there.
-pub fn piece_at(text: &[u8], at: usize) -> Option<Piece>
-    ensures { result ≡ piece_of (drop at text.now) }
+// The first byte of a string, if it does not end here.
+fn piece_of(bytes: &[u8]) -> Option<Piece>
+    ensures { result ≡ piece_of bytes.now }
 {
-    if text.len() <= at {
-        return None;
-    }
-    match text[at] {
+    match *bytes.first()? {
         b'"' => None,
-        b'\\' => escape_at(text, at),
+        b'\\' => Some(escape_of(bytes)),
         byte => Some(Piece { byte, wide: 1 }),
     }
+}
+
+// The bytes from a place on, none past the end.
+fn behind(bytes: &[u8], place: usize) -> &[u8]
+    ensures { result.now ≡ drop place bytes.now }
+{
+    &bytes[place.min(bytes.len())..]
 }
 
 /// A place further on, at most the text's end.
@@ -78,19 +71,43 @@ pub fn advance(text: &[u8], at: usize, far: usize) -> usize
     }
 }
 
+/// The bytes of a string that are still to come.
+#[derive(Clone, Copy, Debug)]
+pub struct StringBytes<'a> {
+    rest: &'a [u8],
+}
+
+/// The bytes of the string that begins at a place.
+#[tactic(auto, unfolding(crate::specs::Machinery::Pieces::bytes_left))]
+pub fn string_at(text: &[u8], from: usize) -> StringBytes
+    ensures { bytes_left result ≡ content_of (drop from text.now) }
+{
+    StringBytes {
+        rest: behind(text, from),
+    }
+}
+
+impl<'a> Iterator for StringBytes<'a> {
+    ghost use Rattle.std.specs.Iterator.{YieldsFirst, item_count};
+    ghost use Rattle.json_text.specs.Machinery.Pieces.{bytes_left};
+
+    type Item = u8;
+
+    ghost next_gives = { YieldsFirst bytes_left };
+
+    ghost remaining = { item_count bytes_left };
+
+    #[inline(always)]
+    fn next(&mut self) -> Option<u8> {
+        let piece = piece_of(self.rest)?;
+        self.rest = behind(self.rest, piece.wide);
+        Some(piece.byte)
+    }
+}
+
 /// The string that begins at a place says these bytes.
 pub fn string_is(text: &[u8], from: usize, name: &[u8]) -> bool
     ensures { result ≡ same_bytes (content_of (drop from text.now)) name.now }
 {
-    let mut at = from;
-    for wanted in name {
-        let Some(piece) = piece_at(text, at) else {
-            return false;
-        };
-        if piece.byte != *wanted {
-            return false;
-        }
-        at = advance(text, at, piece.wide);
-    }
-    piece_at(text, at).is_none()
+    string_at(text, from).eq(name.iter().copied())
 }

@@ -1,6 +1,7 @@
-// A text by its tokens: the next one from a place on.
+// A text by its tokens: the next one from a place on, and all of them.
 ghost use Rattle.std.specs.Prelude.{◌≡◌, length};
 ghost use Rattle.json_text.specs.Machinery.Marks.{start_mark, tokens_at, met_tokens, Ahead};
+ghost use Rattle.json_text.specs.Machinery.TokensLeft.{walked, reached};
 
 use crate::events::{Event, event_of};
 use crate::machine::{State, start, step};
@@ -57,4 +58,38 @@ pub fn next_token(text: &[u8], from: Mark) -> Option<Token>
         at += run_of(&text[at..], state.phase);
     }
     None
+}
+
+/// The tokens of a text from a place on.
+#[derive(Clone, Copy, Debug)]
+pub struct Tokens<'a> {
+    text: &'a [u8],
+    here: Mark,
+}
+
+/// All tokens from a place on.
+pub fn tokens_from(text: &[u8], from: Mark) -> Tokens
+    ensures text { walked result ≡ text.now }
+    ensures place { reached result ≡ from }
+{
+    Tokens { text, here: from }
+}
+
+impl<'a> Iterator for Tokens<'a> {
+    ghost use Rattle.std.specs.Prelude.{◌-◌, length};
+    ghost use Rattle.std.specs.Iterator.{at_most};
+    ghost use Rattle.json_text.specs.Machinery.TokensLeft.{walked, reached, GivesToken};
+
+    type Item = Token;
+
+    ghost next_gives = { GivesToken };
+
+    ghost remaining = { λ s. at_most (length (walked s) - (reached s).at) };
+
+    #[inline(always)]
+    fn next(&mut self) -> Option<Token> {
+        let token = next_token(self.text, self.here)?;
+        self.here = token.behind;
+        Some(token)
+    }
 }

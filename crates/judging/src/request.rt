@@ -6,6 +6,7 @@ use matching::value::value_matches;
 use stored::values::is_in_range;
 
 /// The number of columns, which is also a column that no list speaks of.
+// stays: no plainer: RULES 1 numbers the columns, a refusal says the number, and the comparison goes through them by it.
 pub const COLUMNS: usize = 8;
 
 // Columns 0 to 2 are needed, the keys behind them are not.

@@ -4,6 +4,7 @@ ghost use Rattle.matching.specs.Symbols.{symbol_of};
 ghost use Rattle.matching.specs.Machinery.Codes.{byte_code, symbol_code, takes_byte, takes_symbol};
 
 /// The code of the start of a value.
+// stays: fixed lent memory: codes are words of the workspace, and a step compares 64 of them at once.
 pub const START: u64 = 1;
 
 pub(crate) const BEHIND_STAR: u64 = 2;

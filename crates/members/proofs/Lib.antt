@@ -1,6 +1,5 @@
 -- What the proofs of several functions share, the laws of the faults, and the promises: a file for each concept.
 pub mod OneToken
-pub mod Folded
 pub mod Judging
 pub mod Marked
 pub mod FirstFault

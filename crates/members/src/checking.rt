@@ -5,16 +5,15 @@ ghost use Rattle.members.specs.Machinery.Levels.{members_of};
 
 use crate::levels::after_token;
 use crate::state::State;
-use json_text::tokens::{first_mark, next_token};
+use json_text::tokens::{first_mark, tokens_from};
 use refusals::Refusal;
 
 /// The first 21 or 22 of a text that has no 20.
 pub fn members_fault(text: &[u8]) -> Result<(), Refusal>
     ensures { as_checked result ≡ members_of text.now }
 {
-    let mut here = first_mark();
     let mut state = State::begin();
-    while let Some(token) = next_token(text, here) {
+    for token in tokens_from(text, first_mark()) {
         match after_token(state, token.event, text, token.at + 1) {
             Ok(next) => state = next,
             Err(reason) => {
@@ -22,7 +21,6 @@ pub fn members_fault(text: &[u8]) -> Result<(), Refusal>
                 return Err(Refusal { reason, place });
             }
         }
-        here = token.behind;
     }
     Ok(())
 }

@@ -1,6 +1,5 @@
 -- A cursor at the beginning has all wishes of the text before it.
-use Rattle.std.proofs.Common.{ℕ, ◌<◌, ◌≡◌, ap, List, ◌∷◌, arith, length}
-use Rattle.records.specs.Wishes.{Wish}
+use Rattle.std.proofs.Common.{ℕ, ◌≡◌, List}
 use Rattle.records.specs.Machinery.Cursors.{wishes_left, first_cursor}
 use Rattle.records.proofs.Wishing as Wishing
 use Rattle.policy.specs.Machinery.Runs.{wishes_of}
@@ -8,7 +7,3 @@ use Rattle.policy.specs.Machinery.Runs.{wishes_of}
 pub first-wishes : (t : List ℕ) → wishes_left t first_cursor ≡ wishes_of t
 unfolding wishes_of
 first-wishes t = Wishing.first-wishes t
-
--- with each wish fewer are left
-pub fewer : (x : Wish) (rest ws : List Wish) → ws ≡ x ∷ rest → length rest < length ws
-fewer x rest ws e = omega (arith, ap (λ (l : List Wish). length l) e)

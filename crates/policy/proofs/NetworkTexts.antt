@@ -1,11 +1,8 @@
 -- The reading of a network's text one byte at a time says what the text says.
 use Prim.{tt}
-use Rattle.std.proofs.Common.{Option, Some, None, ℕ, zero, suc, ◌+◌, ◌*◌, ◌-◌, ◌^◌, ◌≤◌, ◌<◌, Bool, true, false, ◌≡◌, refl, ◌∙◌, ap, List, [], ◌∷◌, arith, eqb, leb, length, drop, leb-true, ne_eqb}
+use Rattle.std.proofs.Common.{Option, Some, None, ℕ, zero, suc, ◌+◌, ◌*◌, ◌-◌, ◌^◌, ◌≤◌, ◌<◌, Bool, true, false, ◌≡◌, refl, ◌∙◌, ap, List, [], ◌∷◌, arith, eqb, leb, leb-true, ne_eqb}
 use Rattle.json_text.specs.Choice.{pick}
 use Rattle.json_text.specs.Bytes.{is_digit}
-use Rattle.json_text.specs.Machinery.Pieces.{piece_of, content_of}
-use Rattle.json_text.specs.declared.pieces.Piece.{Piece}
-use Rattle.json_text.proofs.Contents.{content-closed, content-next}
 use Rattle.records.specs.Networks as N
 use Rattle.records.specs.Networks.{with_digit, after_digit, length_of, dotted, slashed, numbers_of}
 use Rattle.policy.specs.Machinery.NetworkTexts.{longer_of, digit_step, dot_step, slash_step, digit_or, part_step, step_of, part_end, end_of, read_of, RoomLeft, as_number, read_by, read_after}
@@ -157,18 +154,13 @@ step-sound (P.Length a) n b s = by (is_digit b)
     by false = tt
 
 -- the loop: one byte more, a byte that fails, the end
-module _ (s : List ℕ) (x : Seen) where
-  pub goes_on_lem : (b : Piece) (y : Seen) → piece_of s ≡ Some b → step_of x b.byte ≡ Some y
-      → read_by x.part x.number (content_of s) ≡ read_by y.part y.number (content_of (drop b.wide s))
-  goes_on_lem b y e f =
-      ap (read_by x.part x.number) (content-next s b e) ∙ stepped x.part x.number b.byte (content_of (drop b.wide s)) ∙ ap (read_after (content_of (drop b.wide s))) f
+module _ (left : List ℕ) (x : Seen) where
+  pub goes_on_lem : (b : ℕ) (rest : List ℕ) (y : Seen) → left ≡ b ∷ rest → step_of x b ≡ Some y
+      → read_by x.part x.number left ≡ read_by y.part y.number rest
+  goes_on_lem b rest y e f = ap (read_by x.part x.number) e ∙ stepped x.part x.number b rest ∙ ap (read_after rest) f
 
-  pub fails : (b : Piece) → piece_of s ≡ Some b → step_of x b.byte ≡ None → read_by x.part x.number (content_of s) ≡ N.Read.none
-  fails b e f =
-      ap (read_by x.part x.number) (content-next s b e) ∙ stepped x.part x.number b.byte (content_of (drop b.wide s)) ∙ ap (read_after (content_of (drop b.wide s))) f
+  pub fails : (b : ℕ) (rest : List ℕ) → left ≡ b ∷ rest → step_of x b ≡ None → read_by x.part x.number left ≡ N.Read.none
+  fails b rest e f = ap (read_by x.part x.number) e ∙ stepped x.part x.number b rest ∙ ap (read_after rest) f
 
-  pub closes : piece_of s ≡ None → read_by x.part x.number (content_of s) ≡ read_of (end_of x)
-  closes e = ap (read_by x.part x.number) (content-closed s e) ∙ ends x.part x.number
-
-pub shorter : (s : List ℕ) (b : Piece) → piece_of s ≡ Some b → length (content_of (drop b.wide s)) < length (content_of s)
-shorter s b e = omega (arith, ap (λ (l : List ℕ). length l) (content-next s b e))
+  pub closes : left ≡ [] → read_by x.part x.number left ≡ read_of (end_of x)
+  closes e = ap (read_by x.part x.number) e ∙ ends x.part x.number

@@ -4,7 +4,7 @@ ghost use Rattle.json_text.specs.Machinery.Pieces.{content_of};
 ghost use Rattle.records.specs.Networks.{network_of};
 ghost use Rattle.policy.specs.Machinery.NetworkTexts.{as_digit, longer_of, step_of, end_of, read_of, RoomLeft};
 
-use json_text::pieces::{advance, piece_at};
+use json_text::pieces::string_at;
 
 /// An address, and how many of its first bits count.
 #[derive(Clone, Copy, Debug, PartialEq, Eq)]
@@ -106,14 +106,12 @@ fn end(seen: Seen) -> Option<Network>
 pub fn read_network(text: &[u8], from: usize) -> Option<Network>
     ensures { read_of result ≡ network_of (content_of (drop from text.now)) }
 {
-    let mut at = from;
     let mut seen = Seen {
         part: Part::Dotted(3, 0),
         number: None,
     };
-    while let Some(piece) = piece_at(text, at) {
-        seen = step(seen, piece.byte)?;
-        at = advance(text, at, piece.wide);
+    for byte in string_at(text, from) {
+        seen = step(seen, byte)?;
     }
     end(seen)
 }

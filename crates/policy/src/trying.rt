@@ -3,7 +3,7 @@ ghost use Rattle.std.specs.Prelude.{◌≡◌, ◌+◌};
 ghost use Rattle.policy.specs.Machinery.Runs.{as_dried, capped, dried_of};
 
 use crate::items::try_wish;
-use records::cursor::{first, next};
+use records::cursor::wishes_of;
 use refusals::Refusal;
 use stored::limits::MOST_BYTES;
 use stored::writer::begin;
@@ -20,9 +20,8 @@ pub fn dry_run(text: &[u8]) -> Result<usize, Refusal>
     ensures { as_dried result ≡ dried_of text.now }
 {
     let mut state = begin().state;
-    let mut cursor = first();
     let mut size: usize = 0;
-    while let Some(wished) = next(text, cursor) {
+    for wished in wishes_of(text) {
         let place = wished.place;
         match try_wish(text, state, wished.wish, place) {
             Ok((after, more)) => {
@@ -31,7 +30,6 @@ pub fn dry_run(text: &[u8]) -> Result<usize, Refusal>
             }
             Err(reason) => return Err(Refusal { reason, place }),
         }
-        cursor = wished.cursor;
     }
     Ok(size)
 }

@@ -3,7 +3,7 @@ ghost use Rattle.std.specs.Prelude.{◌≡◌};
 ghost use Rattle.policy.specs.Machinery.Runs.{poured_of};
 
 use crate::items::write_wish;
-use records::cursor::{first, next};
+use records::cursor::wishes_of;
 use stored::writer::begin;
 
 /// Writes records up to the first that is refused, and says how many bytes they took.
@@ -12,13 +12,11 @@ pub fn write_all(text: &[u8], table: &mut [u8]) -> usize
     ensures left { table.new ≡ (poured_of text.now table.old).left }
 {
     let mut writer = begin();
-    let mut cursor = first();
-    while let Some(wished) = next(text, cursor) {
+    for wished in wishes_of(text) {
         let Ok(after) = write_wish(text, writer, wished.wish, wished.place, table) else {
             return writer.at;
         };
         writer = after;
-        cursor = wished.cursor;
     }
     writer.at
 }

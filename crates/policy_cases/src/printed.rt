@@ -15,12 +15,12 @@ fn print_bytes(bytes: &[u8]) {
 
 // The bytes of a table, and whether those behind it are as they were.
 fn print_table(table: &[u8], size: usize) {
-    if table.len() < size {
+    let Some((bytes, behind)) = table.split_at_checked(size) else {
         io::write_all(1, b" longer than its buffer");
         return;
-    }
-    print_bytes(&table[..size]);
-    if !are_all(&table[size..], FILLING) {
+    };
+    print_bytes(bytes);
+    if !are_all(behind, FILLING) {
         io::write_all(1, b"; bytes behind it changed");
     }
 }

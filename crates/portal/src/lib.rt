@@ -27,6 +27,7 @@ const WORKSPACE: usize = 8192;
 const MOST_PLACE: u64 = 0xFFFFFFFFFFFFFF;
 
 // Bit i of the flags.
+// stays: the C interface has flags in one number, and slices beside them.
 fn is_set(flags: u32, i: u32) -> bool
     requires { i < 32 }
     ensures { result ≡ is_set flags i }

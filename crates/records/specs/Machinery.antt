@@ -3,3 +3,4 @@ pub mod Walkers
 pub mod Streams
 pub mod Rows
 pub mod Cursors
+pub mod WishesLeft

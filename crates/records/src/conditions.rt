@@ -87,6 +87,7 @@ pub(crate) fn next_condition(text: &[u8], from: Mark, start: Spot) -> Option<Sai
 {
     let mut here = from;
     let mut spot = start;
+    // stays: no plainer as a `for` over the tokens, since a wish whose value is read later goes on before its token, which the iterator has passed
     while let Some(token) = next_token(text, here) {
         let place = token.at;
         let behind = token.behind;

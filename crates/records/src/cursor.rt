@@ -8,6 +8,7 @@ ghost use Rattle.records.specs.Machinery.Walkers.{seek};
 ghost use Rattle.records.specs.Machinery.Rows.{AtMost, among_of};
 ghost use Rattle.records.specs.Machinery.Streams.{values_from, conditions_from, row_from, rows_from, statement_from, document_from};
 ghost use Rattle.records.specs.Machinery.Cursors.{hold_of, spot_of, last, behind_row, column_from, conditions_left, part_left, first_cursor, wishes_left, wished_left, next_wishes, Inside};
+ghost use Rattle.records.specs.Machinery.WishesLeft.{looked_at, wishes_ahead};
 
 use crate::conditions::{Spot, next_condition};
 use crate::effects::effect_of;
@@ -227,4 +228,40 @@ pub fn next(text: &[u8], cursor: Cursor) -> Option<Wished>
         place: wished.place.min(text.len()),
         ..wished
     })
+}
+
+/// The wishes of a document that are still to come.
+#[derive(Clone, Copy, Debug)]
+pub struct Wishes<'a> {
+    text: &'a [u8],
+    cursor: Cursor,
+}
+
+/// All wishes of a document.
+pub fn wishes_of(text: &[u8]) -> Wishes
+    ensures text { looked_at result ≡ text.now }
+    ensures all { wishes_ahead result ≡ wishes_left text.now first_cursor }
+{
+    Wishes {
+        text,
+        cursor: first(),
+    }
+}
+
+impl<'a> Iterator for Wishes<'a> {
+    ghost use Rattle.std.specs.Iterator.{item_count};
+    ghost use Rattle.records.specs.Machinery.WishesLeft.{wishes_ahead, GivesWish};
+
+    type Item = Wished;
+
+    ghost next_gives = { GivesWish };
+
+    ghost remaining = { item_count wishes_ahead };
+
+    #[inline(always)]
+    fn next(&mut self) -> Option<Wished> {
+        let wished = next(self.text, self.cursor)?;
+        self.cursor = wished.cursor;
+        Some(wished)
+    }
 }

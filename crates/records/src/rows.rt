@@ -6,7 +6,7 @@ ghost use Rattle.records.specs.Machinery.Streams.Among.{begin};
 ghost use Rattle.records.specs.Machinery.Rows.{AtMost, among_turn, row_in, sighted, RowAhead};
 
 use json_text::events::Event;
-use json_text::tokens::{Mark, next_token};
+use json_text::tokens::{Mark, tokens_from};
 
 /// Before the value of Statement; between the statements of its list; so many brackets inside one of them.
 #[derive(Clone, Copy, Debug, PartialEq, Eq)]
@@ -59,15 +59,15 @@ pub(crate) fn next_row(text: &[u8], from: Mark, start: Among) -> Option<Row>
     ensures row { sighted text.now result ≡ row_in (tokens_at text.now from) start }
     ensures ahead { RowAhead from.at (length text.now) result }
 {
-    let mut here = from;
     let mut among = start;
-    while let Some(token) = next_token(text, here) {
-        let members = token.behind;
+    for token in tokens_from(text, from) {
         match among_turn(among, token.event)? {
             Sight::On(further) => among = further,
-            Sight::Statement(listed) => return Some(Row { members, listed }),
+            Sight::Statement(listed) => {
+                let members = token.behind;
+                return Some(Row { members, listed });
+            }
         }
-        here = members;
     }
     None
 }

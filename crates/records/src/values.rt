@@ -7,7 +7,7 @@ ghost use Rattle.records.specs.Machinery.Streams.{values_from};
 ghost use Rattle.records.specs.Machinery.Cursors.{hold_of, hold_turn, strings_left};
 
 use json_text::events::Event;
-use json_text::tokens::{Mark, next_token};
+use json_text::tokens::{Mark, tokens_from};
 
 /// No list is open; one that began at a place is still empty; one has a string.
 #[derive(Clone, Copy, Debug, PartialEq, Eq)]
@@ -54,16 +54,14 @@ fn hold_turn(hold: Hold, event: Event, at: usize) -> Option<Heard>
 pub(crate) fn next_string(text: &[u8], from: Mark, start: Hold) -> Option<Strings>
     ensures { (behind : List Wishes.Wish) → values_from S.Text behind (tokens_at text.now from) (hold_of text.now start) ≡ strings_left text.now behind result }
 {
-    let mut here = from;
     let mut hold = start;
-    while let Some(token) = next_token(text, here) {
+    for token in tokens_from(text, from) {
         match hold_turn(hold, token.event, token.at)? {
             Heard::On(further) => hold = further,
             Heard::Alone => return Some(Strings::Alone(token.at)),
             Heard::Listed => return Some(Strings::Listed(token.at, token.behind)),
             Heard::Empty(place) => return Some(Strings::Empty(place)),
         }
-        here = token.behind;
     }
     None
 }

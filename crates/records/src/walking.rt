@@ -6,7 +6,7 @@ ghost use Rattle.json_text.specs.declared.events.Event.TheVariants as E;
 ghost use Rattle.records.specs.Machinery.Walkers.{next_place, moved_of, seek_turn, seek, told};
 
 use json_text::events::Event;
-use json_text::tokens::{Mark, next_token};
+use json_text::tokens::{Mark, next_token, tokens_from};
 use members::names::Name;
 
 /// A member: its name, and the place behind the name's first byte.
@@ -76,15 +76,15 @@ fn seek_turn<N: Name>(
 pub(crate) fn seek_member<N: Name>(text: &[u8], from: Mark, like: N) -> Option<Member<N>>
     ensures { told N.index text.now result ≡ seek N.kind_of N.slot_of (N.slot_of (suc (N.index like))) (tokens_at text.now from) 0 }
 {
-    let mut here = from;
     let mut depth: usize = 0;
-    while let Some(token) = next_token(text, here) {
-        let value = token.behind;
+    for token in tokens_from(text, from) {
         match seek_turn(like, depth, token.event, text, token.at + 1)? {
             Moved::On(further) => depth = further,
-            Moved::Here(name) => return Some(Member { name, value }),
+            Moved::Here(name) => {
+                let value = token.behind;
+                return Some(Member { name, value });
+            }
         }
-        here = value;
     }
     None
 }

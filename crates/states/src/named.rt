@@ -59,6 +59,7 @@ impl Iterator for SetBits {
 }
 
 // Also the bytes named by the positions of one word of a row; from: the first of these.
+// stays: fixed lent memory: the codes of the positions stand at a place of the workspace.
 fn name_word(words: &[u64], named: ByteSet, from: usize, word: u64) -> ByteSet
     requires { (from ≤ 448) × (taken_at ≤ length words.now) }
     ensures { NamesWord words.now from word named.words result.words 64 }

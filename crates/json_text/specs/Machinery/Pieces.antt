@@ -4,6 +4,7 @@ use Rattle.std.specs.Prelude.{ℕ, zero, suc, ◌+◌, ◌*◌, ◌%◌, List, [
 use Rattle.json_text.specs.Choice.{pick}
 use Rattle.json_text.specs.Bytes.{hex_of}
 use Rattle.json_text.specs.declared.pieces.Piece.{Piece}
+use Rattle.json_text.specs.declared.pieces.StringBytes.{StringBytes}
 
 -- a byte, and how many bytes of the text it takes
 abbrev pub piece : ℕ → ℕ → Piece
@@ -30,3 +31,7 @@ content (suc fuel) s = after_piece (content fuel) s (piece_of s)
 
 unfoldable pub content_of : List ℕ → List ℕ
 content_of s = content (length s) s
+
+-- the bytes that an iterator over a string has still to give
+unfoldable pub bytes_left : StringBytes → List ℕ
+bytes_left iterator = content_of iterator.rest.now

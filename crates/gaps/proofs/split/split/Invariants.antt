@@ -1,10 +1,13 @@
--- The loop keeps where the walk from the place at hand ends, which is where the whole walk ends; each record moves the place on.
-use Rattle.std.proofs.Common.{◌≤◌, ◌-◌, ◌≡◌, length}
+-- The walk over what is left ends where the whole walk ends; each record leaves less.
+use Rattle.std.proofs.Common.{◌≡◌, ◌-◌, ◌≤◌, length, drop}
 use Rattle.gaps.specs.Split.{end_from, first_end}
 use Rattle.gaps.proofs.split.split.Given as goal
 
-abbrev pub invariant-loop-at : goal.invariant-loop-at
-invariant-loop-at l = (l.at ≤ length l.input) × (end_from (length l.input - l.at) l.input l.at ≡ first_end l.input)
+abbrev pub invariant-loop-byte : goal.invariant-loop-byte
+invariant-loop-byte l =
+    (length l.left ≤ length l.input)
+    × (drop (length l.input - length l.left) l.input ≡ l.left)
+    × (end_from (length l.left) l.input (length l.input - length l.left) ≡ first_end l.input)
 
-abbrev pub decreases-loop-at : goal.decreases-loop-at
-decreases-loop-at l = length l.input - l.at
+abbrev pub decreases-loop-byte : goal.decreases-loop-byte
+decreases-loop-byte l = length l.left

@@ -1,9 +1,7 @@
--- The place stays in the text, and the room keeps its length.
-use Rattle.std.proofs.Common.{◌-◌, ◌≤◌, ◌≡◌, length}
+-- What is laid down has room.
+use Rattle.std.proofs.Common.{◌≤◌, length}
 use Rattle.policy_cases.proofs.cases_of.lay_case.Given as goal
 
-abbrev pub invariant-loop-at : goal.invariant-loop-at
-invariant-loop-at l = (l.at ≤ length l.text) × (length l.room ≡ length l.initial.room)
-
-abbrev pub decreases-loop-at : goal.decreases-loop-at
-decreases-loop-at l = length l.text - l.at
+abbrev pub invariant-loop-i : goal.invariant-loop-i
+invariant-loop-i l =
+    goal.iterator-loop-i.can_next l.i-iterator × goal.iterator-loop-i.is_finite l.i-iterator × (l.size ≤ length l.room)

@@ -1,13 +1,13 @@
 -- The invariant: from the place and depth at hand the walk finds what it finds from its beginning.
-use Rattle.std.proofs.Common.{◌≡◌, ◌-◌, ◌≤◌, suc, length}
+use Rattle.std.proofs.Common.{◌≡◌, ◌≤◌, suc}
 use Rattle.json_text.specs.Machinery.Marks.{tokens_at}
+use Rattle.json_text.specs.Machinery.TokensLeft.{walked, reached}
 use Rattle.records.specs.Machinery.Walkers.{seek}
 use Rattle.records.proofs.walking.seek_member.Given as goal
 
 abbrev pub invariant-loop-token : goal.invariant-loop-token
 invariant-loop-token g l =
     let slot = g.N.Name.slot_of (suc (g.N.Name.index l.like)) in
-    (l.depth ≤ l.here.at) × (seek g.N.Name.kind_of g.N.Name.slot_of slot (tokens_at l.text l.here) l.depth ≡ seek g.N.Name.kind_of g.N.Name.slot_of slot (tokens_at l.text l.initial.here) 0)
-
-abbrev pub decreases-loop-token : goal.decreases-loop-token
-decreases-loop-token g l = length l.text - l.here.at
+    let here = reached l.token-iterator in
+    (walked l.token-iterator ≡ l.text) × (l.depth ≤ here.at)
+    × (seek g.N.Name.kind_of g.N.Name.slot_of slot (tokens_at l.text here) l.depth ≡ seek g.N.Name.kind_of g.N.Name.slot_of slot (tokens_at l.text l.fn.from) 0)
