@@ -18,7 +18,8 @@ pub const MOST_NETWORKS: usize = 128;
 /// The product of the footprint counts.
 pub const MOST_KINDS: u64 = 16777216;
 
+/// The columns of a request.
 pub const COLUMNS: usize = 8;
 
 /// The set of all rows.
-pub const ALL_ROWS: u64 = 0xFFFFFFFFFFFFFFFF;
+pub const ALL_ROWS: u64 = u64::MAX;

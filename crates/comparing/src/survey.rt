@@ -10,7 +10,7 @@ ghost use Rattle.columns.specs.Machinery.Both.{Narrow, FewNetworks};
 ghost use Rattle.comparing.specs.Compared.{most_kinds};
 ghost use Rattle.comparing.specs.Machinery.Survey.{HasRoom, Added, HasStates, RowsAdded, Gathered, FoundStates, SurveyedColumn, Surveyable, Surveyed};
 
-use crate::answers::{Refused, Side};
+use crate::answers::Refused;
 use crate::limits::{COLUMNS, MOST_KINDS};
 use columns::contents::lay_codes;
 use columns::ends::next_edge;
@@ -151,7 +151,8 @@ fn survey_column(words: &mut [u64], tables: Tables, column: usize, from: usize) 
 }
 
 // The product of the counts so far, or one more than the limit where it passes that.
-fn most_kinds(kinds: u64, count: usize) -> u64
+// stays: no plainer as an Option: what is laid down of a column, and the refusal, go by this number against the limit.
+fn kinds_so_far(kinds: u64, count: usize) -> u64
     requires { (0 < count) × (count ≤ 513) × (kinds ≤ most_kinds + 1) }
     ensures { result ≡ min (most_kinds + 1) (kinds * count) }
 {
@@ -176,10 +177,11 @@ pub(crate) fn survey(words: &mut [u64], tables: Tables) -> Result<[usize; 9], Re
     let mut from: usize = 0;
     let mut kinds: u64 = 1;
     for column in 0..COLUMNS {
-        let Some(to) = survey_column(words, tables, column, from) else {
-            return Err(Refused::together(Reason::Crowded, column));
-        };
-        kinds = most_kinds(kinds, to - from);
+        let to = survey_column(words, tables, column, from).ok_or(Refused::together(
+            Reason::Crowded,
+            column,
+        ))?;
+        kinds = kinds_so_far(kinds, to - from);
         from = next_bound(kinds, from, to);
         bounds[column + 1] = from;
     }
