@@ -10,7 +10,9 @@ use crate::records::record_at;
 /// A record's item, and the bytes of its body: those of a value stand beside its item.
 #[derive(Clone, Copy, Debug)]
 pub struct Entry<'a> {
+    /// What the record says.
     pub item: Item,
+    /// The bytes of its body.
     pub bytes: &'a [u8],
     pub ghost has_kind: { HasKind item (length bytes.now) } by { HasKind-prop item (length bytes.now) },
 }

@@ -2,6 +2,7 @@
 ghost use Rattle.std.specs.Prelude.{◌≡◌};
 ghost use Rattle.stored.specs.Items.{column_place, column_negated, key_code, key_of, key_sort};
 
+/// The effect of a statement.
 #[derive(Clone, Copy, Debug, PartialEq, Eq)]
 pub enum Effect {
     Deny,
@@ -36,6 +37,7 @@ pub enum Operator {
     NotIpAddressIfExists,
 }
 
+/// The keys of conditions.
 #[derive(Clone, Copy, Debug, PartialEq, Eq)]
 pub enum Key {
     SourceVpc,
@@ -57,12 +59,17 @@ pub enum Sort {
 pub enum Item {
     /// The number of statements.
     Start(u8),
+    /// A statement begins, with its effect.
     Statement(Effect),
+    /// An element begins.
     Column(Column),
+    /// A condition begins.
     Condition(Operator, Key),
     /// The address, high byte first in a record, and the prefix length.
     Network(u32, u8),
+    /// A value, whose bytes stand beside the item.
     Value,
+    /// The table ends.
     End,
 }
 
@@ -122,17 +129,29 @@ pub fn is_negated_column(column: Column) -> bool
 }
 
 /// The code of a key.
-// stays: what may not change key_code, which the judge calls
+impl From<Key> for u8 {
+    ghost use Rattle.std.specs.Prelude.{◌≡◌};
+    ghost use Rattle.stored.specs.Items.{key_code};
+
+    ghost from_gives = { λ key code. code ≡ key_code key };
+
+    fn from(key: Key) -> u8 {
+        match key {
+            Key::SourceVpc => 0,
+            Key::Prefix => 1,
+            Key::SourceVpce => 2,
+            Key::Referer => 3,
+            Key::SourceIp => 4,
+        }
+    }
+}
+
+/// The code of a key.
+// stays: no plainer: other crates call it by this name
 pub fn key_code(key: Key) -> u8
     ensures { result ≡ key_code key }
 {
-    match key {
-        Key::SourceVpc => 0,
-        Key::Prefix => 1,
-        Key::SourceVpce => 2,
-        Key::Referer => 3,
-        Key::SourceIp => 4,
-    }
+    u8::from(key)
 }
 
 // The key with a code, where one has it.

@@ -1,5 +1,5 @@
 // The stored form of an access table: its items, its records, the one state machine that says which record may come next,
-// the reader, the writer, and the record at a place for those who walk a table.
+// the reader, the writer, and the records one after the other (entries) for those who walk a table.
 
 #![tactic(auto)]
 

@@ -13,26 +13,36 @@ use refusals::Reason;
 /// What was read last.
 #[derive(Clone, Copy, Debug, PartialEq, Eq)]
 pub enum Phase {
+    /// Nothing.
     Fresh,
     /// The number of statements.
     Counted,
     /// A statement, not yet its principals.
     Opened,
+    /// The principals, or one of their values.
     Principals,
+    /// The actions, or one of their values.
     Actions,
+    /// The resources, or one of their values.
     Resources,
+    /// A condition, or one of its values or networks.
     Conditions,
+    /// The end.
     Ended,
 }
 
+/// What decides which record may come next.
 #[derive(Clone, Copy, Debug, PartialEq, Eq)]
 pub struct State {
+    /// What was read last.
     pub phase: Phase,
-    /// Statements announced, and those still to come.
+    /// Statements announced.
     pub rows: u8,
+    /// Statements still to come.
     pub left: u8,
-    /// Values and networks of the statement, together, and its conditions.
+    /// Values and networks of the statement, together.
     pub values: u8,
+    /// Conditions of the statement.
     pub conditions: u8,
     /// The list at hand is still empty.
     pub waiting: bool,
@@ -57,7 +67,7 @@ pub(crate) fn fresh() -> State
 pub(crate) fn is_ended(phase: Phase) -> bool
     ensures { result ≡ is_ended phase }
 {
-    matches!(phase, Phase::Ended)
+    phase == Phase::Ended
 }
 
 // The kind of an item's record.

@@ -4,9 +4,12 @@ ghost use Rattle.stored.specs.Operators.{row_of, operator_of};
 
 use crate::items::{Operator, Sort};
 
+/// What there is to know of an operator.
 #[derive(Clone, Copy, Debug, PartialEq, Eq)]
 pub struct OperatorRow {
+    /// The code in a record.
     pub code: u8,
+    /// The operator that it is.
     pub operator: Operator,
     /// The sort of key, and so of list, that it goes with.
     pub sort: Sort,

@@ -29,12 +29,12 @@ fn is_in_turn(phase: Phase, left: u8, kind: Kind) -> bool
     ensures { result ≡ takes_kind phase left kind }
 {
     match phase {
-        Phase::Fresh => matches!(kind, Kind::Start),
+        Phase::Fresh => kind == Kind::Start,
         Phase::Counted => is_next_row(left, kind),
-        Phase::Opened => matches!(kind, Kind::Column),
-        Phase::Principals | Phase::Actions => is_content(kind) || matches!(kind, Kind::Column),
+        Phase::Opened => kind == Kind::Column,
+        Phase::Principals | Phase::Actions => is_content(kind) || kind == Kind::Column,
         Phase::Resources | Phase::Conditions => {
-            is_content(kind) || matches!(kind, Kind::Condition) || is_next_row(left, kind)
+            is_content(kind) || kind == Kind::Condition || is_next_row(left, kind)
         }
         Phase::Ended => false,
     }
@@ -46,7 +46,7 @@ pub(crate) fn due(state: State, kind: Kind) -> Result<(), Reason>
 {
     if is_ended(state.phase) {
         Err(Reason::OutOfTurn)
-    } else if matches!(kind, Kind::Unknown) {
+    } else if kind == Kind::Unknown {
         Err(Reason::Unknown)
     } else if state.waiting && !is_content(kind) {
         Err(Reason::EmptyList)

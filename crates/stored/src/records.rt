@@ -6,6 +6,7 @@ use crate::items::{Column, Effect, Item, key_of};
 use crate::operators::operator_of;
 use refusals::Reason;
 
+/// The kinds of records, and what is none.
 #[derive(Clone, Copy, Debug, PartialEq, Eq)]
 pub enum Kind {
     Start,
@@ -16,14 +17,18 @@ pub enum Kind {
     Network,
     /// A value of so many bytes.
     Value(usize),
+    /// A byte that stands for no kind.
     Unknown,
 }
 
 /// The record at a place: its item, where its body starts and how long that is (the next record is behind it).
 #[derive(Clone, Copy, Debug, PartialEq, Eq)]
 pub struct Record {
+    /// What it says.
     pub item: Item,
+    /// Where its body starts.
     pub start: usize,
+    /// How long its body is.
     pub size: usize,
 }
 
@@ -36,6 +41,7 @@ pub enum RecordFault {
     Strange,
 }
 
+/// The reason of a refusal at such a place.
 impl From<RecordFault> for Reason {
     ghost use Rattle.std.specs.Prelude.{◌≡◌};
     ghost use Rattle.stored.specs.Records.{reason_of};

@@ -95,7 +95,7 @@ fn ended(state: State) -> State
 fn is_sound_in(phase: Phase, bytes: &[u8]) -> bool
     ensures { result ≡ sound_in phase bytes.now }
 {
-    !matches!(phase, Phase::Principals) || is_star_alone(bytes) || !has_wildcard(bytes)
+    phase != Phase::Principals || is_star_alone(bytes) || !has_wildcard(bytes)
 }
 
 // What is wrong with a value by itself in a list: its length, a byte, or what it says there, in this order.
@@ -106,7 +106,7 @@ fn value_fault(phase: Phase, sort: Sort, bytes: &[u8]) -> Result<(), Reason>
         Err(Reason::OverLimit)
     } else if !is_in_range(bytes) {
         Err(Reason::OutOfRange)
-    } else if matches!(sort, Sort::Text) && !has_variable(bytes) && is_sound_in(phase, bytes) {
+    } else if sort == Sort::Text && !has_variable(bytes) && is_sound_in(phase, bytes) {
         Ok(())
     } else {
         Err(Reason::Unsound)
@@ -149,7 +149,7 @@ fn network_turn(state: State, address: u32, length: u8) -> Result<State, Reason>
 {
     if MOST_VALUES <= state.values {
         Err(Reason::OverLimit)
-    } else if matches!(state.sort, Sort::Address) && is_sound_network(address, length) {
+    } else if state.sort == Sort::Address && is_sound_network(address, length) {
         Ok(filled(state, state.values + 1))
     } else {
         Err(Reason::Unsound)

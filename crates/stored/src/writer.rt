@@ -13,7 +13,9 @@ use refusals::{Reason, Refusal};
 /// A writer between two items: the state machine's state, and the bytes written so far.
 #[derive(Clone, Copy, Debug, PartialEq, Eq)]
 pub struct Writer {
+    /// The state machine's state.
     pub state: State,
+    /// The bytes written so far.
     pub at: usize,
 }
 
