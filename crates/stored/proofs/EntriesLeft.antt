@@ -1,13 +1,16 @@
 -- The walk over the records of a byte string does not know what stands before them: from a place on it is the walk over the bytes from
 -- there on, so that an iterator over the records need only keep these.
-use Rattle.std.proofs.Common.{◌≡◌, ℕ, zero, suc, ◌+◌, ◌-◌, ◌≤◌, List, [], ◌∷◌, Bool, true, false, ltb, length, take, drop, refl, sym, ap, ◌∙◌, arith, length-drop, drop-drop, lt-ltb, le-ltb, ltb-true, ltb-false, Option, Some, None, Err}
+use Rattle.std.proofs.Common.{◌≡◌, ℕ, zero, suc, ◌+◌, ◌-◌, ◌≤◌, List, [], ◌∷◌, Bool, true, false, ltb, length, take, drop, refl, sym, ap, ◌∙◌, arith, length-drop, drop-drop, lt-ltb, le-ltb, ltb-true, ltb-false, Option, Some, None, Result, Ok, Err}
+use Rattle.std.specs.Result.{result_ok}
 use Rattle.std.proofs.lemmas.List.{get_or-drop}
+use Rattle.std.proofs.lemmas.Option.{none-some, same_Some}
 use Rattle.stored.specs.Choice.{pick}
 use Rattle.stored.specs.Records.{Record, Record as R, as_record, size_of, known, record_behind, record_at}
 use Rattle.stored.specs.Entries.{Entry, entry_of, bytes_of, after_record, walk, entries_from, entries_of}
 use Rattle.stored.specs.declared.items.Item.{Item}
 use Rattle.stored.specs.declared.items.Item.TheVariants as I
 use Rattle.stored.specs.declared.records.Kind.{Kind}
+use Rattle.stored.specs.declared.records.Record as Code
 use Rattle.stored.specs.declared.records.RecordFault.{RecordFault}
 use Rattle.stored.specs.declared.records.RecordFault.TheVariants as F
 use Rattle.stored.proofs.Walking.{inside, body-length, goes_on_lem, ends-cut, ends-strange}
@@ -85,6 +88,16 @@ entry-first t i s n e =
 pub none-first : (t : List ℕ) (fault : RecordFault) → record_at t 0 ≡ as_record (Err fault) → entries_of t ≡ []
 none-first t F.Cut e = ends-cut t 0 e
 none-first t F.Strange e = ends-strange t 0 e
+
+-- what a record that is found says of the bytes, and that none is where none is found
+pub found-first : (t : List ℕ) (r : Result Code.Record RecordFault) (x : Code.Record) → as_record r ≡ record_at t 0 → result_ok r ≡ Some x
+    → record_at t 0 ≡ R.Is x.item x.start x.size
+found-first t (Ok y) x e found = sym e ∙ ap (λ (z : Code.Record). R.Is z.item z.start z.size) (same_Some y x found)
+found-first t (Err f) x e found = absurd (none-some x found)
+
+pub none-found : (t : List ℕ) (r : Result Code.Record RecordFault) → as_record r ≡ record_at t 0 → result_ok r ≡ None → entries_of t ≡ []
+none-found t (Ok y) e none = absurd (none-some y (sym none))
+none-found t (Err f) e none = none-first t f (sym e)
 
 -- how many bytes entries take at least: one each, and those of their values
 abbrev pub bytes_taken : List Entry → ℕ

@@ -44,9 +44,7 @@ impl<'a> Iterator for Entries<'a> {
 
     #[inline(always)]
     fn next(&mut self) -> Option<Entry<'a>> {
-        let Ok(record) = record_at(self.rest, 0) else {
-            return None;
-        };
+        let record = record_at(self.rest, 0).ok()?;
         let end = record.start + record.size;
         let bytes = &self.rest[record.start..end];
         self.rest = &self.rest[end..];

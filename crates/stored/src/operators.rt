@@ -131,6 +131,7 @@ pub fn operator_row(operator: Operator) -> OperatorRow
 pub(crate) fn operator_of(code: u8) -> Option<Operator>
     ensures { result ≡ operator_of code }
 {
+    // stays: tried with `find` and `map`, and the proof does not close: what `find` gives over a constant table
     for row in &OPERATORS {
         if row.code == code {
             return Some(row.operator);

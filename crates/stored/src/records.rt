@@ -166,10 +166,8 @@ fn record_behind(table: &[u8], start: usize, kind: Kind) -> Result<Record, Recor
         return Err(RecordFault::Cut);
     }
     let end = start + size;
-    match decode(kind, &table[start..end]) {
-        Some(item) => Ok(Record { item, start, size }),
-        None => Err(RecordFault::Strange),
-    }
+    let item = decode(kind, &table[start..end]).ok_or(RecordFault::Strange)?;
+    Ok(Record { item, start, size })
 }
 
 /// The record at a place of any byte string.
