@@ -25,7 +25,7 @@ fn mark_all(words: &mut [u64], p: usize)
     ensures { Marks words.old words.new p (λ x. true) }
 {
     for b in FIRST_BYTE..=LAST_BYTE {
-        mark_at(words, TAKEN_ROW + b as usize, p);
+        mark_at(words, TAKEN_ROW + usize::from(b), p);
     }
 }
 
@@ -36,10 +36,10 @@ fn mark_code(words: &mut [u64], p: usize, code: u64)
 {
     if code == BEHIND_ONE {
         mark_all(words, p);
-        return;
-    }
-    for b in named_by(code).bytes() {
-        mark_at(words, TAKEN_ROW + b as usize, p);
+    } else {
+        for b in named_by(code).bytes() {
+            mark_at(words, TAKEN_ROW + usize::from(b), p);
+        }
     }
 }
 
@@ -62,8 +62,8 @@ fn followers_of(words: &[u64]) -> ByteSet
 {
     let mut set = ByteSet::EMPTY;
     for b in b'a'..=b'z' {
-        let row = row_at(words, TAKEN_ROW + b as usize);
-        if is_row(words, TAKEN_ROW + (b - 32) as usize, row) {
+        let row = row_at(words, TAKEN_ROW + usize::from(b));
+        if is_row(words, TAKEN_ROW + usize::from(b - 32), row) {
             set = set.with(b);
         }
     }

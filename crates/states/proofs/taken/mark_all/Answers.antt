@@ -1,5 +1,5 @@
-use Rattle.std.proofs.Common.{ℕ, ◌+◌, List, sym, subst, ltb, arith, le-ltb}
-use Rattle.states.specs.Machinery.Taken.{Marks}
+use Rattle.std.proofs.Common.{ℕ, ◌+◌, List, ap, ◌∙◌, sym, subst, ltb, arith, le-ltb}
+use Rattle.states.specs.Machinery.Taken.{Marks, marked_at}
 use Rattle.states.proofs.MarkedBytes.{marks-none, marks-next}
 use Rattle.states.proofs.taken.mark_all.Goals as goal
 
@@ -12,5 +12,5 @@ pub loop-b-preserved : goal.loop-b-preserved
 loop-b-preserved c =
     let a = c.args in
     let l = c.loop-b in
-    subst (λ (w : List ℕ). Marks a.words.now w a.p (λ x. ltb x (l.b + 1))) (sym c.mark_at.ensures)
+    subst (λ (w : List ℕ). Marks a.words.now w a.p (λ x. ltb x (l.b + 1))) (sym (c.mark_at.ensures ∙ ap (λ (x : ℕ). marked_at l.words (607 + x) a.p) c.from.ensures))
     (marks-next a.words.now l.words a.p l.b c.requires.0 (omega (arith, l.auto.words, c.requires.1)) (omega arith, omega arith) l.invariant)

@@ -1,7 +1,7 @@
 use Rattle.std.proofs.Common.{ℕ, ◌+◌, List, refl, ap, sym, ◌∙◌, subst, arith}
 use Rattle.states.specs.declared.bytes.ByteSet.{ByteSet}
 use Rattle.states.specs.declared.bytes.Bytes.{Bytes}
-use Rattle.states.specs.Machinery.Taken.{Marks}
+use Rattle.states.specs.Machinery.Taken.{Marks, marked_at}
 use Rattle.states.proofs.MarkedBytes.{below_in, marks_begin, marks_skip, marks_more}
 use Rattle.states.proofs.taken.mark_code.Goals as goal
 
@@ -32,5 +32,5 @@ loop-b-preserved c =
       marks =
           subst (λ (from : ℕ). Marks a.words.now c.mark_at.new.words a.p (below_in c.next.new.self.set.words from)) (sym next.2)
           (subst (λ (s : ByteSet). Marks a.words.now c.mark_at.new.words a.p (below_in s.words (b + 1))) (sym next.1)
-          (subst (λ (w : List ℕ). Marks a.words.now w a.p (below_in set (b + 1))) (sym c.mark_at.ensures) marked));
+          (subst (λ (w : List ℕ). Marks a.words.now w a.p (below_in set (b + 1))) (sym (c.mark_at.ensures ∙ ap (λ (x : ℕ). marked_at l.words (607 + x) a.p) c.from.ensures)) marked));
     }
