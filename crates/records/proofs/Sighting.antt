@@ -10,14 +10,14 @@ use Rattle.records.specs.Machinery.Rows.{among_of, higher, Sighted, after_sight,
 use Rattle.records.specs.Machinery.Rows.Sighted.{none, seen}
 use Rattle.records.specs.declared.rows.Among.{Among}
 use Rattle.records.specs.declared.rows.Among.TheVariants as A
-use Rattle.records.specs.declared.rows.Sight.TheVariants as S
+use Rattle.std.specs.declared.ops.ControlFlow.TheVariants.{Continue}
 
 -- a bracket closes inside a statement
 closes : (ts : List Token) (d : ℕ) → after_sight (row_in ts) ts (higher (A.Within (suc d))) ≡ row_in ts (A.Within d)
 closes ts d =
     let e : eqb (suc d) 0 ≡ false = ne_eqb (suc d) 0 (λ x. omega arith) in
     let f : suc d - 1 ≡ d = omega arith in
-    ap (λ (b : Bool). after_sight (row_in ts) ts (Some (pick b (S.On A.Between) (S.On (A.Within (suc d - 1)))))) e ∙ ap (λ (k : ℕ). row_in ts (A.Within k)) f
+    ap (λ (b : Bool). after_sight (row_in ts) ts (Some (pick b (Continue A.Between) (Continue (A.Within (suc d - 1)))))) e ∙ ap (λ (k : ℕ). row_in ts (A.Within k)) f
 
 -- the wishes of statements, from the next one on
 abbrev pub rows_by : List Wish → Sighted → List Wish

@@ -7,6 +7,7 @@ ghost use Rattle.records.specs.Machinery.Rows.{AtMost, among_turn, row_in, sight
 
 use json_text::events::Event;
 use json_text::tokens::{Mark, tokens_from};
+use std::ops::ControlFlow;
 
 /// Before the value of Statement; between the statements of its list; so many brackets inside one of them.
 #[derive(Clone, Copy, Debug, PartialEq, Eq)]
@@ -16,13 +17,6 @@ pub enum Among {
     Within(usize),
 }
 
-#[derive(Clone, Copy, Debug, PartialEq, Eq)]
-pub enum Sight {
-    On(Among),
-    /// A statement begins; whether it stands in a list.
-    Statement(bool),
-}
-
 /// A statement: the place behind its brace, where its members begin, and whether it stands in a list.
 #[derive(Clone, Copy, Debug, PartialEq, Eq)]
 pub struct Row {
@@ -30,24 +24,25 @@ pub struct Row {
     pub listed: bool,
 }
 
-fn among_turn(among: Among, event: Event) -> Option<Sight>
+// One token: a statement begins, and whether it stands in a list, or the walk goes on; nothing where the value ends.
+fn among_turn(among: Among, event: Event) -> Option<ControlFlow<bool, Among>>
     requires { AtMost 18446744073709551614 among }
     ensures { result ≡ among_turn among event }
 {
     match (among, event) {
-        (_, Event::Name | Event::Text | Event::Other) => Some(Sight::On(among)),
-        (Among::Begin, Event::OpenList) => Some(Sight::On(Among::Between)),
-        (Among::Begin, Event::OpenObject) => Some(Sight::Statement(false)),
-        (Among::Between, Event::OpenList) => Some(Sight::On(Among::Within(0))),
-        (Among::Between, Event::OpenObject) => Some(Sight::Statement(true)),
+        (_, Event::Name | Event::Text | Event::Other) => Some(ControlFlow::Continue(among)),
+        (Among::Begin, Event::OpenList) => Some(ControlFlow::Continue(Among::Between)),
+        (Among::Begin, Event::OpenObject) => Some(ControlFlow::Break(false)),
+        (Among::Between, Event::OpenList) => Some(ControlFlow::Continue(Among::Within(0))),
+        (Among::Between, Event::OpenObject) => Some(ControlFlow::Break(true)),
         (Among::Within(depth), Event::OpenList | Event::OpenObject) => {
-            Some(Sight::On(Among::Within(depth + 1)))
+            Some(ControlFlow::Continue(Among::Within(depth + 1)))
         }
         (Among::Within(0), Event::CloseList | Event::CloseObject) => {
-            Some(Sight::On(Among::Between))
+            Some(ControlFlow::Continue(Among::Between))
         }
         (Among::Within(depth), Event::CloseList | Event::CloseObject) => {
-            Some(Sight::On(Among::Within(depth - 1)))
+            Some(ControlFlow::Continue(Among::Within(depth - 1)))
         }
         (Among::Begin | Among::Between, Event::CloseList | Event::CloseObject) => None,
     }
@@ -62,8 +57,8 @@ pub(crate) fn next_row(text: &[u8], from: Mark, start: Among) -> Option<Row>
     let mut among = start;
     for token in tokens_from(text, from) {
         match among_turn(among, token.event)? {
-            Sight::On(further) => among = further,
-            Sight::Statement(listed) => {
+            ControlFlow::Continue(further) => among = further,
+            ControlFlow::Break(listed) => {
                 let members = token.behind;
                 return Some(Row { members, listed });
             }

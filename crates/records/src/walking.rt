@@ -8,19 +8,15 @@ ghost use Rattle.records.specs.Machinery.Walkers.{next_place, moved_of, seek_tur
 use json_text::events::Event;
 use json_text::tokens::{Mark, next_token, tokens_from};
 use members::names::Name;
+use std::ops::ControlFlow;
 
 /// A member: its name, and the place behind the name's first byte.
 #[derive(Clone, Copy, Debug, PartialEq, Eq)]
 pub struct Member<N> {
+    /// Its name.
     pub name: N,
+    /// The place behind the name's first byte.
     pub value: Mark,
-}
-
-#[derive(Clone, Copy, Debug, PartialEq, Eq)]
-pub enum Moved<N> {
-    /// So many brackets inside the object.
-    On(usize),
-    Here(N),
 }
 
 // The place of the next token; the text's end where there is none.
@@ -33,40 +29,42 @@ pub(crate) fn place_from(text: &[u8], from: Mark) -> usize
     }
 }
 
-fn at_name<N: Name>(like: N, depth: usize, text: &[u8], from: usize) -> Moved<N>
+// A name: the member sought, or so many brackets inside the object.
+fn at_name<N: Name>(like: N, depth: usize, text: &[u8], from: usize) -> ControlFlow<N, usize>
     ensures { moved_of N.index (Some result) ≡ seek_turn N.kind_of N.slot_of (N.slot_of (suc (N.index like))) depth E.Name (content_of (drop from text.now)) }
 {
     match N::named(text, from) {
         Some(name) => {
             if depth == 0 && name.slot() == like.slot() {
-                Moved::Here(name)
+                ControlFlow::Break(name)
             } else {
-                Moved::On(depth)
+                ControlFlow::Continue(depth)
             }
         }
-        None => Moved::On(depth),
+        None => ControlFlow::Continue(depth),
     }
 }
 
+// One token: the member sought, or so many brackets inside the object; nothing where the object ends.
 fn seek_turn<N: Name>(
     like: N,
     depth: usize,
     event: Event,
     text: &[u8],
     from: usize,
-) -> Option<Moved<N>>
+) -> Option<ControlFlow<N, usize>>
     requires { depth < 18446744073709551615 }
     ensures { moved_of N.index result ≡ seek_turn N.kind_of N.slot_of (N.slot_of (suc (N.index like))) depth event (content_of (drop from text.now)) }
 {
     match event {
         Event::Name => Some(at_name(like, depth, text, from)),
-        Event::Text | Event::Other => Some(Moved::On(depth)),
-        Event::OpenList | Event::OpenObject => Some(Moved::On(depth + 1)),
+        Event::Text | Event::Other => Some(ControlFlow::Continue(depth)),
+        Event::OpenList | Event::OpenObject => Some(ControlFlow::Continue(depth + 1)),
         Event::CloseList | Event::CloseObject => {
             if depth == 0 {
                 None
             } else {
-                Some(Moved::On(depth - 1))
+                Some(ControlFlow::Continue(depth - 1))
             }
         }
     }
@@ -79,8 +77,8 @@ pub(crate) fn seek_member<N: Name>(text: &[u8], from: Mark, like: N) -> Option<M
     let mut depth: usize = 0;
     for token in tokens_from(text, from) {
         match seek_turn(like, depth, token.event, text, token.at + 1)? {
-            Moved::On(further) => depth = further,
-            Moved::Here(name) => {
+            ControlFlow::Continue(further) => depth = further,
+            ControlFlow::Break(name) => {
                 let value = token.behind;
                 return Some(Member { name, value });
             }

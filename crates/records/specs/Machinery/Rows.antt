@@ -1,5 +1,7 @@
 -- The statements of a document, from its tokens as they come: the next one.
 use Rattle.std.specs.Prelude.{ℕ, suc, ◌+◌, ◌-◌, ◌≤◌, ◌<◌, Bool, true, false, Option, Some, None, List, [], ◌∷◌, eqb}
+use Rattle.std.specs.declared.ops.ControlFlow.{ControlFlow}
+use Rattle.std.specs.declared.ops.ControlFlow.TheVariants.{Continue, Break}
 use Rattle.json_text.specs.Choice.{pick}
 use Rattle.json_text.specs.Machinery.Tokens.{Token}
 use Rattle.json_text.specs.Machinery.Marks.{tokens_at}
@@ -9,8 +11,6 @@ use Rattle.members.specs.Machinery.Levels.{kind_of}
 use Rattle.records.specs.Machinery.Streams as Streams
 use Rattle.records.specs.declared.rows.Among.{Among}
 use Rattle.records.specs.declared.rows.Among.TheVariants as A
-use Rattle.records.specs.declared.rows.Sight.{Sight}
-use Rattle.records.specs.declared.rows.Sight.TheVariants as S
 use Rattle.records.specs.declared.rows.Row.{Row}
 
 -- in the words of the stream of wishes
@@ -30,21 +30,21 @@ deeper A.Begin = A.Between
 deeper A.Between = A.Within 0
 deeper (A.Within d) = A.Within (d + 1)
 
-abbrev pub higher : Among → Option Sight
+abbrev pub higher : Among → Option (ControlFlow Bool Among)
 higher A.Begin = None
 higher A.Between = None
-higher (A.Within d) = Some (pick (eqb d 0) (S.On A.Between) (S.On (A.Within (d - 1))))
+higher (A.Within d) = Some (pick (eqb d 0) (Continue A.Between) (Continue (A.Within (d - 1))))
 
-abbrev pub object : Among → Sight
-object A.Begin = S.Statement false
-object A.Between = S.Statement true
-object (A.Within d) = S.On (A.Within (d + 1))
+abbrev pub object : Among → ControlFlow Bool Among
+object A.Begin = Break false
+object A.Between = Break true
+object (A.Within d) = Continue (A.Within (d + 1))
 
-abbrev pub among_turn : Among → Event → Option Sight
-among_turn a E.Name = Some (S.On a)
-among_turn a E.Text = Some (S.On a)
-among_turn a E.Other = Some (S.On a)
-among_turn a E.OpenList = Some (S.On (deeper a))
+abbrev pub among_turn : Among → Event → Option (ControlFlow Bool Among)
+among_turn a E.Name = Some (Continue a)
+among_turn a E.Text = Some (Continue a)
+among_turn a E.Other = Some (Continue a)
+among_turn a E.OpenList = Some (Continue (deeper a))
 among_turn a E.CloseList = higher a
 among_turn a E.OpenObject = Some (object a)
 among_turn a E.CloseObject = higher a
@@ -54,9 +54,9 @@ pub data Sighted : Type 0 where
   none : Sighted
   seen : List Token → Bool → Sighted
 
-abbrev pub after_sight : (Among → Sighted) → List Token → Option Sight → Sighted
-after_sight go ts (Some (S.On a)) = go a
-after_sight go ts (Some (S.Statement listed)) = seen ts listed
+abbrev pub after_sight : (Among → Sighted) → List Token → Option (ControlFlow Bool Among) → Sighted
+after_sight go ts (Some (Continue a)) = go a
+after_sight go ts (Some (Break listed)) = seen ts listed
 after_sight go ts None = none
 
 abbrev pub row_in : List Token → Among → Sighted

@@ -1,5 +1,7 @@
 -- Walks over the tokens of a document: to the value of a member.
 use Rattle.std.specs.Prelude.{ℕ, suc, ◌+◌, ◌-◌, Option, Some, None, List, [], ◌∷◌, eqb}
+use Rattle.std.specs.declared.ops.ControlFlow.{ControlFlow}
+use Rattle.std.specs.declared.ops.ControlFlow.TheVariants.{Continue, Break}
 use Rattle.json_text.specs.Choice.{pick}
 use Rattle.json_text.specs.Machinery.Tokens.{Token}
 use Rattle.json_text.specs.Machinery.Marks.{tokens_at}
@@ -8,8 +10,6 @@ use Rattle.json_text.specs.declared.events.Event.TheVariants as E
 use Rattle.members.specs.Machinery.Levels.{place_of, said}
 use Rattle.members.specs.Machinery.Levels.{kind_of as event_of}
 use Rattle.records.specs.declared.walking.Member.{Member}
-use Rattle.records.specs.declared.walking.Moved as Code
-use Rattle.records.specs.declared.walking.Moved.TheVariants as M
 
 -- the place of the value that comes next
 abbrev pub next_place : List Token → ℕ
@@ -23,10 +23,10 @@ pub data Moved : Type 0 where
   Here : ℕ → Moved
 
 -- as code says it
-abbrev pub moved_of : {N : Type 0} → (N → ℕ) → Option (Code.Moved N) → Moved
+abbrev pub moved_of : {N : Type 0} → (N → ℕ) → Option (ControlFlow N ℕ) → Moved
 moved_of index None = Gone
-moved_of index (Some (M.On d)) = On d
-moved_of index (Some (M.Here name)) = Here (suc (index name))
+moved_of index (Some (Continue d)) = On d
+moved_of index (Some (Break name)) = Here (suc (index name))
 
 -- a member's kind, and the tokens behind its name
 pub data Sought : Type 0 where
