@@ -12,22 +12,31 @@ use json_text::tokens::{Mark, next_token};
 use members::names::{key_name, operator_name};
 use stored::items::{Key, Operator};
 
-/// Where the reading of conditions stands: before the value of Condition; among its operators, behind an operator's name, among its keys,
-/// behind a key's name; before the value of a condition that was wished for; in its list, empty since a place, or not.
+/// Where the reading of conditions stands.
 #[derive(Clone, Copy, Debug, PartialEq, Eq)]
 pub enum Spot {
+    /// Before the value of Condition.
     Before,
+    /// Among its operators.
     Operators,
+    /// Behind an operator's name.
     Operator(Operator),
+    /// Among an operator's keys.
     Keys(Operator),
+    /// Behind a key's name.
     Key(Operator, Key),
+    /// Before the value of a condition that was wished for.
     Value(Operator),
+    /// In its list, empty since a place.
     EmptyList(Operator, usize),
+    /// In its list, which has a string.
     FilledList(Operator),
 }
 
+/// What a token of a condition leads to.
 #[derive(Clone, Copy, Debug, PartialEq, Eq)]
 pub enum Turned {
+    /// Nothing is wished for; the spot behind it.
     On(Spot),
     /// A condition, wished for before its value is read.
     Waits(Operator, Key),
@@ -40,9 +49,13 @@ pub enum Turned {
 /// A wish, its place, and where to go on.
 #[derive(Clone, Copy, Debug, PartialEq, Eq)]
 pub struct Said {
+    /// What is wished for.
     pub wish: Wish,
+    /// The place of the value that it comes from.
     pub place: usize,
+    /// The place where to go on.
     pub here: Mark,
+    /// The spot there.
     pub spot: Spot,
 }
 

@@ -18,7 +18,9 @@ use stored::items::Effect;
 /// A wish, and the place of the value that it comes from.
 #[derive(Clone, Copy, Debug, PartialEq, Eq)]
 pub struct Placed {
+    /// What is wished for.
     pub wish: Wish,
+    /// The place of the value that it comes from.
     pub place: usize,
 }
 

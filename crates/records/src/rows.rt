@@ -9,18 +9,23 @@ use json_text::events::Event;
 use json_text::tokens::{Mark, tokens_from};
 use std::ops::ControlFlow;
 
-/// Before the value of Statement; between the statements of its list; so many brackets inside one of them.
+/// Where a walk over the statements stands.
 #[derive(Clone, Copy, Debug, PartialEq, Eq)]
 pub enum Among {
+    /// Before the value of Statement.
     Begin,
+    /// Between the statements of its list.
     Between,
+    /// So many brackets inside one of them.
     Within(usize),
 }
 
-/// A statement: the place behind its brace, where its members begin, and whether it stands in a list.
+/// A statement.
 #[derive(Clone, Copy, Debug, PartialEq, Eq)]
 pub struct Row {
+    /// The place behind its brace, where its members begin.
     pub members: Mark,
+    /// It stands in a list.
     pub listed: bool,
 }
 

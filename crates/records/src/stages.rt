@@ -12,9 +12,13 @@ use members::names::RowName;
 /// What a statement has behind its effect.
 #[derive(Clone, Copy, Debug, PartialEq, Eq)]
 pub enum Part {
+    /// Principal or NotPrincipal.
     Principal,
+    /// Action or NotAction.
     Action,
+    /// Resource or NotResource.
     Resource,
+    /// Condition, which may be absent.
     Conditions,
 }
 
@@ -32,6 +36,7 @@ impl Part {
     }
 }
 
+/// How far the reading of a document is.
 #[derive(Clone, Copy, Debug, PartialEq, Eq)]
 pub enum Stage {
     /// Before the document.
@@ -42,24 +47,32 @@ pub enum Stage {
     Parts(Part),
     /// In the value of an element, with the part that comes behind it.
     Values(Part, Hold),
+    /// In the conditions of a statement.
     Conditions(Spot),
-    /// Behind the last statement, and behind all.
+    /// Behind the last statement.
     End,
+    /// Behind all.
     Over,
 }
 
-/// The stage; the place in the value being read; the statement.
+/// Where the reading of a document stands.
 #[derive(Clone, Copy, Debug, PartialEq, Eq)]
 pub struct Cursor {
+    /// How far it is.
     pub stage: Stage,
+    /// The place in the value being read.
     pub here: Mark,
+    /// The statement.
     pub row: Row,
 }
 
-/// A wish, the place of the value that it comes from, and where to go on.
+/// A wish of a document.
 #[derive(Clone, Copy, Debug, PartialEq, Eq)]
 pub struct Wished {
+    /// What is wished for.
     pub wish: Wish,
+    /// The place of the value that it comes from.
     pub place: usize,
+    /// Where to go on.
     pub cursor: Cursor,
 }

@@ -9,28 +9,36 @@ ghost use Rattle.records.specs.Machinery.Cursors.{hold_of, hold_turn, strings_le
 use json_text::events::Event;
 use json_text::tokens::{Mark, tokens_from};
 
-/// No list is open; one that began at a place is still empty; one has a string.
+/// The list of strings at hand.
 #[derive(Clone, Copy, Debug, PartialEq, Eq)]
 pub enum Hold {
+    /// None is open.
     Outside,
+    /// One that began at a place is still empty.
     Fresh(usize),
+    /// One has a string.
     Filled,
 }
 
+/// What a token of an element's value says.
 #[derive(Clone, Copy, Debug, PartialEq, Eq)]
 pub enum Heard {
+    /// No string; the list then.
     On(Hold),
-    /// A string, alone or in a list.
+    /// A string that stands alone.
     Alone,
+    /// A string in a list.
     Listed,
     /// The end of a list that has none.
     Empty(usize),
 }
 
+/// The next of an element's strings, or that it has none.
 #[derive(Clone, Copy, Debug, PartialEq, Eq)]
 pub enum Strings {
     /// The place of a string in a list, and where to go on.
     Listed(usize, Mark),
+    /// The place of a string that stands alone.
     Alone(usize),
     /// The place of an empty list.
     Empty(usize),

@@ -10,7 +10,7 @@ use json_text::tokens::{Mark, next_token, tokens_from};
 use members::names::Name;
 use std::ops::ControlFlow;
 
-/// A member: its name, and the place behind the name's first byte.
+/// A member of an object.
 #[derive(Clone, Copy, Debug, PartialEq, Eq)]
 pub struct Member<N> {
     /// Its name.
@@ -23,10 +23,7 @@ pub struct Member<N> {
 pub(crate) fn place_from(text: &[u8], from: Mark) -> usize
     ensures { next_place (tokens_at text.now from) ≡ length text.now - result }
 {
-    match next_token(text, from) {
-        Some(token) => token.at,
-        None => text.len(),
-    }
+    next_token(text, from).map_or(text.len(), |token| token.at)
 }
 
 // A name: the member sought, or so many brackets inside the object.

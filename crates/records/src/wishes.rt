@@ -9,14 +9,18 @@ use members::names::{KeyName, OperatorName, RowName};
 use stored::items::{Column, Effect, Key, Operator, Sort};
 use stored::operators::operator_row;
 
+/// What is wished for: a record, or what stands where none can be made.
 #[derive(Clone, Copy, Debug, PartialEq, Eq)]
 pub enum Wish {
     /// The number of statements.
     Start(usize),
+    /// A statement, by its effect.
     Statement(Effect),
     /// Another Effect.
     Strange,
+    /// An element of a statement.
     Column(Column),
+    /// A condition.
     Condition(Operator, Key),
     /// An empty list.
     Empty,
@@ -24,6 +28,7 @@ pub enum Wish {
     Value,
     /// A string under an address operator.
     Network,
+    /// The end of the table.
     End,
 }
 
