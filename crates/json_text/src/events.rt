@@ -5,16 +5,22 @@ ghost use Rattle.json_text.specs.Machinery.Events.{value_event, element_event, m
 use crate::bytes::is_blank;
 use crate::machine::Phase;
 
+/// What a byte begins or ends.
 #[derive(Clone, Copy, Debug, PartialEq, Eq)]
 pub enum Event {
-    // A string begins: a member's name, a value.
+    /// A string begins: a member's name.
     Name,
+    /// A string begins: a value.
     Text,
-    // A number or a word begins.
+    /// A number or a word begins.
     Other,
+    /// A list begins.
     OpenList,
+    /// A list ends.
     CloseList,
+    /// An object begins.
     OpenObject,
+    /// An object ends.
     CloseObject,
 }
 

@@ -10,35 +10,41 @@ use crate::words::{Due, due_byte, due_next};
 /// What a string is: a member's name or a value.
 #[derive(Clone, Copy, Debug, PartialEq, Eq)]
 pub enum Role {
+    /// A member's name.
     Name,
+    /// A value.
     Content,
 }
 
 /// What was read last, and so what is due.
 #[derive(Clone, Copy, Debug, PartialEq, Eq)]
 pub enum Phase {
-    // At the start, behind a colon, behind a comma in a list: a value.
+    /// At the start, behind a colon, behind a comma in a list: a value.
     Value,
-    // Behind [ : a value or ].
+    /// Behind [ : a value or ].
     FirstElement,
-    // Behind { : a name or }.
+    /// Behind { : a name or }.
     FirstMember,
-    // Behind a comma in an object: a name.
+    /// Behind a comma in an object: a name.
     Member,
-    // Behind a name: a colon.
+    /// Behind a name: a colon.
     Colon,
-    // Behind a value: a comma, a closing bracket, or the end.
+    /// Behind a value: a comma, a closing bracket, or the end.
     After,
-    // Inside a string, a number, a word.
+    /// Inside a string.
     Text(Role, Inside),
+    /// Inside a number.
     Number(Numeral),
+    /// Inside a word.
     Word(Due),
 }
 
-/// The open brackets are the binary digits of `stack` behind a first 1, the innermost last: 1 for an object, 0 for a list.
+/// Where the machine stands.
 #[derive(Clone, Copy, Debug, PartialEq, Eq)]
 pub struct State {
+    /// What was read last.
     pub phase: Phase,
+    /// The open brackets are its binary digits behind a first 1, the innermost last: 1 for an object, 0 for a list.
     pub stack: u16,
 }
 

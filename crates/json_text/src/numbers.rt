@@ -7,22 +7,32 @@ use crate::bytes::{is_digit, is_exponent, is_sign};
 /// What was read last.
 #[derive(Clone, Copy, Debug, PartialEq, Eq)]
 pub enum Numeral {
+    /// The minus before the number.
     Minus,
-    // A single zero, which no digit follows.
+    /// A single zero, which no digit follows.
     Zero,
+    /// A digit of the whole part.
     Whole,
+    /// The point.
     Point,
+    /// A digit behind the point.
     Part,
+    /// The letter of the exponent.
     Exponent,
+    /// The exponent's sign.
     Sign,
+    /// A digit of the exponent.
     Power,
 }
 
+/// What a byte in a number, or behind it, leads to.
 #[derive(Clone, Copy, Debug, PartialEq, Eq)]
 pub enum Counted {
+    /// The number goes on.
     Goes(Numeral),
-    // The number has ended before this byte.
+    /// The number has ended before this byte.
     Ends,
+    /// The byte may not come there.
     Fails,
 }
 

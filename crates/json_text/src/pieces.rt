@@ -1,4 +1,4 @@
-// The bytes of a string, its escapes read, one after the other from the byte behind its opening quote.
+// Strings are read here: the bytes of one, its escapes read, one after the other from the byte behind its opening quote. (`strings` holds the machine's steps inside one.)
 ghost use Rattle.std.specs.Prelude.{◌≡◌, ◌<◌, get_or, drop};
 ghost use Rattle.json_text.specs.Bytes.{hex_of};
 ghost use Rattle.json_text.specs.Choice.{same_bytes};

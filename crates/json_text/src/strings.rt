@@ -7,27 +7,42 @@ use crate::bytes::{is_hex, is_plain, is_simple};
 /// Where in a string: what was read since the last whole character.
 #[derive(Clone, Copy, Debug, PartialEq, Eq)]
 pub enum Inside {
+    /// Nothing.
     Plain,
-    // Behind a backslash, behind \u, \u0, \u00, and behind the third digit.
+    /// A backslash.
     Escape,
+    /// \u.
     Code,
+    /// \u0.
     Zero,
+    /// \u00.
     High,
+    /// \u00 and the third digit.
     Low,
-    // So many bytes 80 to BF are due.
+    /// One byte 80 to BF is due.
     One,
+    /// Two bytes 80 to BF are due.
     Two,
+    /// Three bytes 80 to BF are due.
     Three,
+    /// E0: a byte A0 to BF is due, then one.
     AfterE0,
+    /// ED: a byte 80 to 9F is due, then one.
     AfterED,
+    /// F0: a byte 90 to BF is due, then two.
     AfterF0,
+    /// F4: a byte 80 to 8F is due, then two.
     AfterF4,
 }
 
+/// What a byte in a string leads to.
 #[derive(Clone, Copy, Debug, PartialEq, Eq)]
 pub enum Within {
+    /// The string goes on.
     Goes(Inside),
+    /// The string ends with this byte.
     Closes,
+    /// The byte may not come there.
     Fails,
 }
 

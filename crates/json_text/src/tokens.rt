@@ -7,18 +7,23 @@ use crate::events::{Event, event_of};
 use crate::machine::{State, start, step};
 use crate::runs::run_of;
 
-/// A place in a text, with the machine's state there.
+/// Where a walk over a text stands.
 #[derive(Clone, Copy, Debug, PartialEq, Eq)]
 pub struct Mark {
+    /// The place in the text.
     pub at: usize,
+    /// The machine's state there.
     pub state: State,
 }
 
-/// What begins or ends, its place, and where to go on: behind its first byte.
+/// A token of a text.
 #[derive(Clone, Copy, Debug, PartialEq, Eq)]
 pub struct Token {
+    /// What begins or ends.
     pub event: Event,
+    /// Its place.
     pub at: usize,
+    /// Where to go on: behind its first byte.
     pub behind: Mark,
 }
 

@@ -5,14 +5,23 @@ ghost use Rattle.json_text.specs.Machinery.Words.{due_byte, due_next};
 /// The letters that are due.
 #[derive(Clone, Copy, Debug, PartialEq, Eq)]
 pub enum Due {
+    /// The last three of true.
     Rue,
+    /// The last two of true.
     Ue,
+    /// The last of true and of false.
     E,
+    /// The last four of false.
     Alse,
+    /// The last three of false.
     Lse,
+    /// The last two of false.
     Se,
+    /// The last three of null.
     Ull,
+    /// The last two of null.
     Ll,
+    /// The last of null.
     L,
 }
 
