@@ -7,6 +7,7 @@ ghost use Rattle.cases.specs.Laying.{is_hex_digit, with_digit, number_of, times_
 use crate::text::{behind_next, is_blank};
 use stored::records::byte_at;
 
+/// A decimal digit.
 pub fn is_digit(byte: u8) -> bool
     ensures { result ≡ is_digit byte }
 {
@@ -127,6 +128,7 @@ pub fn lay_text(text: &[u8], room: &mut [u8], from: usize) -> usize
 {
     let mut to: usize = from;
     let mut rest = text;
+    // stays: no plainer: how much of the text is a sign is known only when its first byte is read
     while let [first, ..] = rest {
         if is_blank(*first) {
             break;
@@ -171,6 +173,7 @@ pub fn lay_words(words: &[u8], room: &mut [u8]) -> usize
 {
     let mut size: usize = 0;
     let mut rest = words;
+    // stays: no plainer: the definition walks over what is left in just this way
     while !rest.is_empty() {
         let (word, others) = rest.split_at(behind_next(rest, 0, b' '));
         size = lay_word(word, room, size);

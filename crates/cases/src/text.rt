@@ -51,6 +51,7 @@ pub fn split_once(text: &[u8], separator: u8) -> Option<(&[u8], &[u8])>
 pub fn begins_with(text: &[u8], bytes: &[u8]) -> bool
     ensures { result ≡ stand_at text.now 0 bytes.now }
 {
+    // stays: what may not change stand_at: 0 stands past the end of the text, which `starts_with` does not say
     for (at, &byte) in bytes.iter().enumerate() {
         if byte_at(text, at) != byte {
             return false;
