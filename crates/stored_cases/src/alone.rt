@@ -10,31 +10,26 @@ use stored::writer::{Writer, begin, write};
 // Stands in no record of these cases.
 const FILLING: u8 = 0xEE;
 
-// The first place that has changed, or the end.
-fn first_changed(buffer: &[u8]) -> usize {
-    buffer
-        .iter()
-        .position(|byte| *byte != FILLING)
-        .unwrap_or(buffer.len())
+// A byte that has changed.
+fn is_changed(byte: u8) -> bool {
+    byte != FILLING
 }
 
-// The place behind the last that has changed, or 0.
-fn behind_changed(buffer: &[u8]) -> usize {
-    match buffer.iter().rposition(|byte| *byte != FILLING) {
-        Some(last) => last + 1,
-        None => 0,
-    }
+// The first place that has changed and the place behind the last, if any has.
+fn changed(buffer: &[u8]) -> Option<(usize, usize)> {
+    let first = buffer.iter().position(|byte| is_changed(*byte))?;
+    let last = buffer.iter().rposition(|byte| is_changed(*byte))?;
+    Some((first, last + 1))
 }
 
 fn print_buffer(buffer: &[u8]) {
-    let behind = behind_changed(buffer);
-    if behind == 0 {
+    let Some((first, behind)) = changed(buffer) else {
         io::write_all(1, b"; buffer kept\n");
         return;
-    }
+    };
     io::write_all(1, b"; buffer changed");
     io::write_all(1, b" ");
-    io::print_decimal(1, first_changed(buffer) as u64);
+    io::print_decimal(1, first as u64);
     io::write_all(1, b" to ");
     io::print_decimal(1, behind as u64);
     io::write_all(1, b"\n");
