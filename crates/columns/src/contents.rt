@@ -32,6 +32,7 @@ struct Content<'a> {
 }
 
 /// The list at hand of a walk: whether it is of the column, and how it is read.
+// stays: no plainer as an `Option<Reading>`: the definitions of the walk keep how a list that is not of the column is read, too.
 #[derive(Clone, Copy, Debug, PartialEq, Eq)]
 pub struct ListAt {
     pub here: bool,
@@ -74,7 +75,7 @@ impl ListAt {
     pub(crate) fn positions(self, entry: Entry) -> usize
         ensures { result ≡ positions_of self entry.entry.item (length entry.entry.bytes.now) }
     {
-        if self.here && matches!(entry.item, Item::Value) {
+        if self.here && entry.item == Item::Value {
             entry.bytes.len() + 1
         } else {
             0
@@ -140,7 +141,7 @@ impl<'a> Iterator for Contents<'a> {
 }
 
 /// The sum of (length plus 1) over the values of a column.
-// stays: no plainer as a type of a table that reads, here and in the two below: `Tables` has this of both its tables already.
+// stays: what may not change positions_in, networks_in, lay_codes: docs/PROMISES.md names the three, each with what it requires of its table.
 pub fn positions_in(table: &[u8], column: usize) -> usize
     requires { Accepted (entries_of table.now) }
     ensures { result ≡ sum_of (values_in column (rows_of table.now)) }

@@ -33,6 +33,7 @@ pub(crate) fn last_positions(plan: &[u64], row: [u64; 8]) -> [u64; 8]
 {
     let mut ends = row;
     for &word in plan {
+        // stays: tried as one line, and the borrow checker does not cover a call's result laid in a local that holds an array.
         let more = word_marked(ends, word);
         ends = more;
     }

@@ -93,7 +93,8 @@ pub fn state_print(
     if rows_meet(row, prints.ends) {
         let own = text_rows(prints.plans.own(words), row);
         let other = text_rows(prints.plans.other(words), row);
-        return joined(own, other, tables.size);
+        joined(own, other, tables.size)
+    } else {
+        joined(prints.own, prints.other, tables.size)
     }
-    joined(prints.own, prints.other, tables.size)
 }

@@ -22,8 +22,8 @@ returns-then-rows_meet c =
     ∙ sides-print a.tables.first.now a.tables.second.now a.tables.size a.column a.words.now a.row a.prints.plans c.text_rows-own.result c.text_rows-other.result
     a.tables.both_read c.requires.0.laid c.requires.2 (c.text_rows-own.ensures ∙ ap run c.own.ensures) (c.text_rows-other.ensures ∙ ap run c.other.ensures) s is
 
-pub joined-requires-2 : goal.joined-requires-2
-joined-requires-2 c =
+pub joined-requires-else-rows_meet : goal.joined-requires-else-rows_meet
+joined-requires-else-rows_meet c =
     let a = c.args in
     let none =
     none-met a.words.now a.row a.prints c.well_formed.1.0.1.0.1 c.requires.0.found
@@ -31,13 +31,13 @@ joined-requires-2 c =
     sides-fit a.tables.first.now a.tables.second.now a.tables.size a.column a.words.now a.row a.prints.plans a.prints.own a.prints.other
     a.tables.both_read c.requires.0.laid c.requires.2 none.0 none.1 c.requires.3
 
-pub returns : goal.returns
-returns c =
+pub returns-else-rows_meet : goal.returns-else-rows_meet
+returns-else-rows_meet c =
     λ s is.
     let a = c.args in
     let none =
     none-met a.words.now a.row a.prints c.well_formed.1.0.1.0.1 c.requires.0.found
     (sym c.rows_meet.ensures ∙ c.if-rows_meet.false) in
-    c.joined-2.ensures
+    c.joined-else-rows_meet.ensures
     ∙ sides-print a.tables.first.now a.tables.second.now a.tables.size a.column a.words.now a.row a.prints.plans a.prints.own a.prints.other
     a.tables.both_read c.requires.0.laid c.requires.2 none.0 none.1 s is
