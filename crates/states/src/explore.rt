@@ -38,7 +38,8 @@ fn try_step(
     ensures searched { Searched positions words.old words.new n (i * 128 + b + 1) result }
     ensures kept { row_at words.new i ≡ row_at words.old i }
 {
-    let taken = (TAKEN_ROW + b as usize) * 8;
+    let byte = usize::from(b);
+    let taken = (TAKEN_ROW + byte) * 8;
     let used = (positions + 63) / 64;
     let row = step_words(
         &words[taken..taken + 8],
@@ -53,7 +54,7 @@ fn try_step(
         return None;
     }
     put_row(words, n, row);
-    words[KEYS + n] = (i * 128 + b as usize) as u64;
+    words[KEYS + n] = (i * 128 + byte) as u64;
     Some(n + 1)
 }
 

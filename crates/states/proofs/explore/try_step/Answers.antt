@@ -9,21 +9,22 @@ use Rattle.states.proofs.TakenRows.{step-leads}
 use Rattle.states.proofs.explore.try_step.Goals as goal
 
 -- the row that the code works out is the one to which the step leads
-leads : (words : List ℕ) (positions i b : ℕ) → Searchable positions words → IsByte b → (from : List ℕ) → from ≡ row_at words i → {row : List ℕ}
-    → row ≡ words_row ((positions + 63) / 64) (take ((607 + b) * 8 + 8 - (607 + b) * 8) (drop ((607 + b) * 8) words)) (stars_laid words) from
+leads : (words : List ℕ) (positions i b : ℕ) → Searchable positions words → IsByte b → (from : List ℕ) → from ≡ row_at words i → {row : List ℕ} {byte : ℕ} → byte ≡ b
+    → row ≡ words_row ((positions + 63) / 64) (take ((607 + byte) * 8 + 8 - (607 + byte) * 8) (drop ((607 + byte) * 8) words)) (stars_laid words) from
     → row ≡ step_from (codes_laid positions words) words i b
-leads words positions i b searchable byte from same e =
+leads words positions i b searchable is_byte from same is e =
     let at = (607 + b) * 8 in
     e
+    ∙ ap (λ (x : ℕ). words_row ((positions + 63) / 64) (take ((607 + x) * 8 + 8 - (607 + x) * 8) (drop ((607 + x) * 8) words)) (stars_laid words) from) is
     ∙ ap₂ (λ (n : ℕ) (row : List ℕ). words_row ((positions + 63) / 64) (take n (drop at words)) (stars_laid words) row)
     {x = at + 8 - at} {y = 8} (omega arith) same
-    ∙ step-leads positions words searchable i b byte
+    ∙ step-leads positions words searchable i b is_byte
 
 pub returns-then-is_some-clause-searched : goal.returns-then-is_some-clause-searched
 returns-then-is_some-clause-searched c =
     let a = c.args in
     let words = a.words.now in
-    let row = leads words a.positions a.i a.b c.requires.0 c.requires.2 c.args.from c.requires.3 c.step_words-row.ensures in
+    let row = leads words a.positions a.i a.b c.requires.0 c.requires.2 c.args.from c.requires.3 c.from-byte.ensures c.step_words-row.ensures in
     let met = row_met words a.n c.step_words-row.result c.find_row.result c.find_row.ensures (sym c.is_some.ensures ∙ c.if-is_some.true) in record {
       kept = refl;
       untouched = untouched-same words a.n;
@@ -35,7 +36,7 @@ pub returns-then-n-ge-MOST_STATES-clause-searched : goal.returns-then-n-ge-MOST_
 returns-then-n-ge-MOST_STATES-clause-searched c =
     let a = c.args in
     let words = a.words.now in
-    let row = leads words a.positions a.i a.b c.requires.0 c.requires.2 c.args.from c.requires.3 c.step_words-row.ensures in
+    let row = leads words a.positions a.i a.b c.requires.0 c.requires.2 c.args.from c.requires.3 c.from-byte.ensures c.step_words-row.ensures in
     let new = row_new words a.n c.step_words-row.result c.find_row.result c.find_row.ensures (sym c.is_some.ensures ∙ c.if-is_some.false) in
     record {
       kept = refl;
@@ -49,12 +50,12 @@ returns c =
     let a = c.args in
     let words = a.words.now in
     let codes = codes_laid a.positions words in
-    let row = leads words a.positions a.i a.b c.requires.0 c.requires.2 c.args.from c.requires.3 c.step_words-row.ensures in
+    let row = leads words a.positions a.i a.b c.requires.0 c.requires.2 c.args.from c.requires.3 c.from-byte.ensures c.step_words-row.ensures in
     let new = row_new words a.n c.step_words-row.result c.find_row.result c.find_row.ensures (sym c.is_some.ensures ∙ c.if-is_some.false) in
     let result = c.step_words-row.result in
     let eight : length result ≡ 8 = ap length row ∙ step-length codes a.b (row_at words a.i) in
     let space : a.n < most_states = omega arith in
-    let laid = ap (λ (l : List ℕ). set l (keys_at + a.n) (a.i * 128 + a.b)) c.put_row.ensures in record {
+    let laid = ap₂ (λ (l : List ℕ) (x : ℕ). set l (keys_at + a.n) (a.i * 128 + x)) c.put_row.ensures c.from-byte.ensures in record {
       searched = record {
         kept = ap (drop codes_at) laid ∙ with-kept words a.n result (a.i * 128 + a.b) eight space (omega (arith, c.requires.0.room));
         untouched =
