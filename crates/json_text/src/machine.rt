@@ -1,5 +1,6 @@
 // One byte of a JSON text: what it leads to.
-ghost use Rattle.std.specs.Prelude.{◌≡◌, ◌<◌};
+ghost use Rattle.std.specs.Prelude.{◌≡◌};
+ghost use Rattle.json_text.specs.Choice.{pick};
 ghost use Rattle.json_text.specs.Machinery.Machine.{start_state, goes, opened, behind_role, after_step, scalar_step, value_step, element_step, member_step, name_step, colon_step, number_step, text_step, word_step, step_of, at_rest, is_ended};
 
 use crate::bytes::is_blank;
@@ -64,13 +65,12 @@ fn go(phase: Phase, stack: u16) -> Option<State>
     Some(State { phase, stack })
 }
 
-// A list (0) or an object (1) opens, unless eight are open.
-fn open(stack: u16, bracket: u16, phase: Phase) -> Option<State>
-    requires { bracket < 2 }
-    ensures { result ≡ opened stack bracket phase }
+// A list or an object opens, unless eight are open.
+fn open(stack: u16, object: bool, phase: Phase) -> Option<State>
+    ensures { result ≡ opened stack (pick object 1 0) phase }
 {
     if stack < 256 {
-        go(phase, stack * 2 + bracket)
+        go(phase, stack * 2 + u16::from(object))
     } else {
         None
     }
@@ -128,8 +128,8 @@ fn value_step(stack: u16, byte: u8) -> Option<State>
     match byte {
         _ if is_blank(byte) => go(Phase::Value, stack),
         b'"' => go(Phase::Text(Role::Content, Inside::Plain), stack),
-        b'[' => open(stack, 0, Phase::FirstElement),
-        b'{' => open(stack, 1, Phase::FirstMember),
+        b'[' => open(stack, false, Phase::FirstElement),
+        b'{' => open(stack, true, Phase::FirstMember),
         _ => scalar_step(stack, byte),
     }
 }
