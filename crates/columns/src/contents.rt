@@ -129,6 +129,7 @@ impl<'a> Iterator for Contents<'a> {
     ghost remaining = { item_count contents_left };
 
     fn next(&mut self) -> Option<Content<'a>> {
+        // stays: no plainer: an entry changes the list at hand, which a chain over the entries would have to carry
         while let Some(entry) = self.entries.next() {
             let list = self.list;
             self.list = list.moved(entry.item, self.column);

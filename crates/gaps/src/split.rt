@@ -10,6 +10,7 @@ pub fn split(input: &[u8]) -> usize
     ensures upper_bound { result ≤ length input.now }
 {
     let mut left = input;
+    // stays: no plainer: what is left behind a record is known only when its kind is read
     while let Some((byte, behind)) = left.split_first() {
         let kind = kind_of(*byte);
         match kind {

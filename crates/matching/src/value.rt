@@ -53,6 +53,7 @@ fn left_matches(symbols: Symbols, string: &[u8]) -> bool
 {
     let mut left = symbols;
     let mut rest = string;
+    // stays: no plainer: at a star, symbols and string go on together from where they are
     while let Some((code, behind)) = left.split_first() {
         if code == BEHIND_STAR {
             // A last star takes any string.

@@ -133,6 +133,7 @@ fn parts(text: &[u8], row: Row, from: Part) -> Wished
     ensures { part_left text.now row from ≡ wished_left text.now result }
 {
     let mut part = from;
+    // stays: no plainer: a part says which one comes behind it
     while let Some((like, behind)) = part.element() {
         if let Some(element) = seek_member(text, row.members, like) {
             return column(text, element, row, behind);

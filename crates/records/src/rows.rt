@@ -79,6 +79,7 @@ pub(crate) fn count_rows(text: &[u8], from: Mark) -> usize
     let mut here = from;
     let mut among = Among::Begin;
     let mut count: usize = 0;
+    // stays: no plainer: a statement says from where, and as what, the next one is looked for
     while let Some(row) = next_row(text, here, among) {
         count += 1;
         if row.listed {
