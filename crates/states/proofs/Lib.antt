@@ -14,3 +14,4 @@ pub mod TakenRows
 pub mod Trying
 pub mod StringsOfRows
 pub mod OneLaying
+pub mod Used

@@ -16,7 +16,7 @@ fn bytes_from(words: &[u64], positions: usize, row: [u64; 8]) -> ByteSet
     ensures { Enough (codes_laid positions words.now) row result.words }
 {
     let ahead = ahead_of(row);
-    let used = (positions + 63) / 64;
+    let used = positions.div_ceil(64);
     let named = name_positions(words, ahead, used);
     let followers = ByteSet {
         words: [words[FOLLOWERS], words[FOLLOWERS + 1]],
@@ -40,7 +40,7 @@ fn try_step(
 {
     let byte = usize::from(b);
     let taken = (TAKEN_ROW + byte) * 8;
-    let used = (positions + 63) / 64;
+    let used = positions.div_ceil(64);
     let row = step_words(
         &words[taken..taken + 8],
         &words[STARS..STARS + 8],

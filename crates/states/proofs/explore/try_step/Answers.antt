@@ -5,16 +5,18 @@ use Rattle.states.specs.Machinery.Rows.{IsByte, most_states, keys_at, codes_at, 
 use Rattle.states.specs.Machinery.Search.{step_from, Searchable, Partial, Untouched}
 use Rattle.states.proofs.RowsInWords.{row_met, row_new, with_row, with-other-row, with-kept, with-untouched, untouched-same}
 use Rattle.states.proofs.Stepping.{step-known, step-over, step-new, step-length}
+use Rattle.states.proofs.Used.{used-words}
 use Rattle.states.proofs.TakenRows.{step-leads}
 use Rattle.states.proofs.explore.try_step.Goals as goal
 
 -- the row that the code works out is the one to which the step leads
-leads : (words : List ℕ) (positions i b : ℕ) → Searchable positions words → IsByte b → (from : List ℕ) → from ≡ row_at words i → {row : List ℕ} {byte : ℕ} → byte ≡ b
-    → row ≡ words_row ((positions + 63) / 64) (take ((607 + byte) * 8 + 8 - (607 + byte) * 8) (drop ((607 + byte) * 8) words)) (stars_laid words) from
+leads : (words : List ℕ) (positions i b : ℕ) → Searchable positions words → IsByte b → (from : List ℕ) → from ≡ row_at words i → {row : List ℕ} {byte used : ℕ} → byte ≡ b → used ≡ (positions + 63) / 64
+    → row ≡ words_row used (take ((607 + byte) * 8 + 8 - (607 + byte) * 8) (drop ((607 + byte) * 8) words)) (stars_laid words) from
     → row ≡ step_from (codes_laid positions words) words i b
-leads words positions i b searchable is_byte from same is e =
+leads words positions i b searchable is_byte from same {byte = byte} is all e =
     let at = (607 + b) * 8 in
     e
+    ∙ ap (λ (n : ℕ). words_row n (take ((607 + byte) * 8 + 8 - (607 + byte) * 8) (drop ((607 + byte) * 8) words)) (stars_laid words) from) all
     ∙ ap (λ (x : ℕ). words_row ((positions + 63) / 64) (take ((607 + x) * 8 + 8 - (607 + x) * 8) (drop ((607 + x) * 8) words)) (stars_laid words) from) is
     ∙ ap₂ (λ (n : ℕ) (row : List ℕ). words_row ((positions + 63) / 64) (take n (drop at words)) (stars_laid words) row)
     {x = at + 8 - at} {y = 8} (omega arith) same
@@ -24,7 +26,7 @@ pub returns-then-is_some-clause-searched : goal.returns-then-is_some-clause-sear
 returns-then-is_some-clause-searched c =
     let a = c.args in
     let words = a.words.now in
-    let row = leads words a.positions a.i a.b c.requires.0 c.requires.2 c.args.from c.requires.3 c.from-byte.ensures c.step_words-row.ensures in
+    let row = leads words a.positions a.i a.b c.requires.0 c.requires.2 c.args.from c.requires.3 c.from-byte.ensures (c.div_ceil-used.ensures ∙ used-words a.positions) c.step_words-row.ensures in
     let met = row_met words a.n c.step_words-row.result c.find_row.result c.find_row.ensures (sym c.is_some.ensures ∙ c.if-is_some.true) in record {
       kept = refl;
       untouched = untouched-same words a.n;
@@ -36,7 +38,7 @@ pub returns-then-n-ge-MOST_STATES-clause-searched : goal.returns-then-n-ge-MOST_
 returns-then-n-ge-MOST_STATES-clause-searched c =
     let a = c.args in
     let words = a.words.now in
-    let row = leads words a.positions a.i a.b c.requires.0 c.requires.2 c.args.from c.requires.3 c.from-byte.ensures c.step_words-row.ensures in
+    let row = leads words a.positions a.i a.b c.requires.0 c.requires.2 c.args.from c.requires.3 c.from-byte.ensures (c.div_ceil-used.ensures ∙ used-words a.positions) c.step_words-row.ensures in
     let new = row_new words a.n c.step_words-row.result c.find_row.result c.find_row.ensures (sym c.is_some.ensures ∙ c.if-is_some.false) in
     record {
       kept = refl;
@@ -50,7 +52,7 @@ returns c =
     let a = c.args in
     let words = a.words.now in
     let codes = codes_laid a.positions words in
-    let row = leads words a.positions a.i a.b c.requires.0 c.requires.2 c.args.from c.requires.3 c.from-byte.ensures c.step_words-row.ensures in
+    let row = leads words a.positions a.i a.b c.requires.0 c.requires.2 c.args.from c.requires.3 c.from-byte.ensures (c.div_ceil-used.ensures ∙ used-words a.positions) c.step_words-row.ensures in
     let new = row_new words a.n c.step_words-row.result c.find_row.result c.find_row.ensures (sym c.is_some.ensures ∙ c.if-is_some.false) in
     let result = c.step_words-row.result in
     let eight : length result ≡ 8 = ap length row ∙ step-length codes a.b (row_at words a.i) in
