@@ -10,6 +10,7 @@ ghost use Rattle.comparing.specs.Answers.{table_of, as_shape};
 ghost use Rattle.comparing.specs.Compared.{shown_bytes, request_shown};
 
 use comparing::answers::{Refused, Shape};
+use comparing::limits::VALUE_ROOM;
 use printing::{put, put_decimal, put_named, put_number};
 
 /// Bytes that a line has at most.
@@ -20,10 +21,10 @@ fn put_dotted(out: &mut [u8], at: usize, address: u32) -> usize
     requires { at + 83 ≤ length out.old }
     ensures { Laid out.old at (dotted address) 83 out.new result }
 {
-    let first = put_decimal(out, at, (address / 0x1000000 % 0x100) as u64);
-    let second = put_number(out, first, b".", (address / 0x10000 % 0x100) as u64);
-    let third = put_number(out, second, b".", (address / 0x100 % 0x100) as u64);
-    put_number(out, third, b".", (address % 0x100) as u64)
+    let first = put_decimal(out, at, u64::from(address / 0x1000000 % 0x100));
+    let second = put_number(out, first, b".", u64::from(address / 0x10000 % 0x100));
+    let third = put_number(out, second, b".", u64::from(address / 0x100 % 0x100));
+    put_number(out, third, b".", u64::from(address % 0x100))
 }
 
 // Lays the address down behind its name, where it is there.
@@ -45,7 +46,7 @@ fn value_in(values: &[u8], column: usize, size: usize) -> &[u8]
     requires { (3584 ≤ length values.now) × (column < 7) }
     ensures { (result.now ≡ shown_bytes values.now column size) × (length result.now ≤ 512) }
 {
-    let room = &values[column * 512..column * 512 + 512];
+    let room = &values[column * VALUE_ROOM..column * VALUE_ROOM + VALUE_ROOM];
     &room[..size.min(room.len())]
 }
 
