@@ -15,6 +15,7 @@ use stored::reader::read;
 /// What the statements of a table say of a request.
 #[derive(Clone, Copy, Debug, PartialEq, Eq)]
 pub enum Verdict {
+    /// Some allow statement applies, and no deny statement does.
     Allowed,
     /// Some deny statement applies.
     DeniedByRule,

@@ -15,8 +15,11 @@ const KEYS: usize = 3;
 /// What a column of a request holds.
 #[derive(Clone, Copy, Debug, PartialEq, Eq)]
 pub enum Value<'a> {
+    /// The key is not there.
     Absent,
+    /// The bytes of a string.
     Text(&'a [u8]),
+    /// An address.
     Number(u32),
 }
 
@@ -119,6 +122,7 @@ impl<'a> Request<'a> {
     pub(crate) fn first_fault(&self) -> Option<usize>
         ensures { result ≡ fault_of (first_fault 0 (columns_of self.now)) }
     {
+        // stays: tried and the proof does not close: with `find` over the columns `search` gives up on what is ensured.
         for column in 0..COLUMNS {
             if self.value(column).is_faulty(column) {
                 return Some(column);
