@@ -16,7 +16,7 @@ const INPUT_ROOM: usize = 131073;
 
 fn print_refusal(refusal: Refusal) {
     let mut line = [0u8; LINE];
-    let size = refusal_line(&mut line, refusal);
+    let size = refusal_line(&mut line, u8::from(refusal.reason), refusal.place);
     io::write_all(1, &line[..size]);
 }
 

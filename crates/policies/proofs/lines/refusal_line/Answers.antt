@@ -5,4 +5,4 @@ use Rattle.policies.proofs.lines.refusal_line.Goals as goal
 
 pub returns : goal.returns
 unfolding refusal_line
-returns c = rw (← c.from-number.ensures, ← c.from.ensures) (joined (joined c.put_number-first.ensures c.put_number-second.ensures) c.put.ensures)
+returns c = rw (← c.from.ensures) (joined (joined c.put_number-first.ensures c.put_number-second.ensures) c.put.ensures)
