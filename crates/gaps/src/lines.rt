@@ -5,11 +5,10 @@ ghost use Rattle.stored.specs.Choice.{pick};
 ghost use Rattle.gaps.specs.Lines.{dotted, count_line, refusal_line, shown, needed_shown, keys_shown, gap_line};
 ghost use Rattle.json_text.specs.Texts.{ascii};
 ghost use Rattle.printing.specs.Laying.{Laid};
-ghost use Rattle.refusals.specs.Numbers.{number_of};
-ghost use Rattle.comparing.specs.Answers.{table_of, as_shape};
+ghost use Rattle.comparing.specs.Answers.{as_shape};
 ghost use Rattle.comparing.specs.Compared.{shown_bytes, request_shown};
 
-use comparing::answers::{Refused, Shape};
+use comparing::answers::Shape;
 use comparing::limits::VALUE_ROOM;
 use printing::{put, put_decimal, put_named, put_number};
 
@@ -78,15 +77,14 @@ pub fn count_line(out: &mut [u8], n: u64) -> usize
 }
 
 /// The line for a refusal.
-pub fn refusal_line(out: &mut [u8], refused: Refused) -> usize
+// stays: what may not change refusal_line: it lays any numbers down.
+pub fn refusal_line(out: &mut [u8], number: u8, table: u8, place: usize) -> usize
     requires { 4096 ≤ length out.old }
-    ensures { Laid out.old 0 (refusal_line (number_of refused.reason) (table_of refused.table) refused.place) 71 out.new result }
+    ensures { Laid out.old 0 (refusal_line number table place) 71 out.new result }
 {
-    let number = u8::from(refused.reason);
-    let table = u8::from(refused.table);
     let first = put_number(out, 0, b"refused ", u64::from(number));
     let second = put_number(out, first, b" ", u64::from(table));
-    let third = put_number(out, second, b" ", refused.place as u64);
+    let third = put_number(out, second, b" ", place as u64);
     put(out, third, b"\n")
 }
 

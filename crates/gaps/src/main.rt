@@ -22,7 +22,12 @@ const MOST_SHOWN: u64 = 16;
 
 fn print_refusal(refused: Refused) {
     let mut line = [0u8; LINE];
-    let size = refusal_line(&mut line, refused);
+    let size = refusal_line(
+        &mut line,
+        u8::from(refused.reason),
+        u8::from(refused.table),
+        refused.place,
+    );
     io::write_all(1, &line[..size]);
 }
 
