@@ -1,13 +1,16 @@
 -- The bits of words: they make the word, what `|`, `&` and `!` make of them, the word of one bit, and the zeros below the lowest bit that
 -- is set.
-use Rattle.std.proofs.Common.{ℕ, zero, suc, ◌+◌, ◌-◌, ◌*◌, ◌/◌, ◌%◌, ◌^◌, ◌≤◌, ◌<◌, min, max, ◌≡◌, refl, sym, ◌∙◌, ap, subst, true, false, not, ◌&&◌, ◌||◌, div-one, not-suc-le-zero, le_of_suc-le-suc, arith, eqb, shr_lt, shr-shr}
-use mathlib.Core.Bool.{false≢true}
+use Rattle.std.proofs.Common.{ℕ, zero, suc, ◌+◌, ◌-◌, ◌*◌, ◌/◌, ◌%◌, ◌^◌, ◌≤◌, ◌<◌, min, max, ◌≡◌, refl, sym, ◌∙◌, ap, ap₂, subst, Bool, true, false, not, ◌&&◌, ◌||◌, ◌⊎◌, inl, inr, div-one, not-suc-le-zero, le_of_suc-le-suc, arith, eqb, eqb-true, shr_lt, shr-shr}
+use mathlib.Core.Bool.{false≢true, and-true}
+use Rattle.std.proofs.Math.Bool.{and-false}
+use borrow.Author.Tests.{eqb-false}
 use native.Mathlib.Nat.{pow-succ', zero-div}
 use lib.Bits.{bit_and, bit_or, and_step, or_step, and_shr, or_shr}
 use lib.Count.{count_trailing_zeros, under}
 use lib.Dec.{eqb-zero-suc, eqb-suc-zero, eqb-suc-suc}
 use Rattle.matching.specs.Machinery.Rows.{word_bit}
 use Rattle.matching.proofs.Rows.{bit-behind}
+use Rattle.states.proofs.Below.{below-or-from}
 
 -- bit by bit
 
@@ -151,3 +154,45 @@ left-zeros word passed k from low =
 pub left-few : (word passed : ℕ) → word < 2 ^ 64 → passed ≤ 64 → 0 < word / 2 ^ passed → passed + count_trailing_zeros 64 (word / 2 ^ passed) < 64
 left-few word passed fits low some =
     let few = trailing-few 64 (64 - passed) (word / 2 ^ passed) some (left-fits word passed fits low) in omega arith
+
+-- a word that has a bit is not 0
+pub has-bit : (n k : ℕ) → word_bit n k ≡ true → 0 < n
+has-bit zero k e = absurd (false≢true (sym (bit-none k) ∙ e))
+has-bit (suc n) k e = omega arith
+
+-- one less than a word, from its lowest bit that is set on: that bit goes
+pub pred-bits : (k n j : ℕ) → ((i : ℕ) → i < k → word_bit n i ≡ false) → word_bit n k ≡ true → k ≤ j → word_bit (n - 1) j ≡ (word_bit n j && not (eqb j k))
+pred-bits zero n zero none here from = odd (n % 2) refl (sym (lowest n) ∙ here)
+  where
+    odd : (r : ℕ) → n % 2 ≡ r → eqb (n % 2) 1 ≡ true → word_bit (n - 1) 0 ≡ (word_bit n 0 && false)
+    odd r is one =
+        let last = eqb-true (n % 2) 1 one in
+        lowest (n - 1) ∙ ap (λ (m : ℕ). eqb m 1) {x = (n - 1) % 2} {y = 0} (omega arith) ∙ sym (and-false (word_bit n 0))
+pred-bits zero n (suc j) none here from =
+    let last = eqb-true (n % 2) 1 (sym (lowest n) ∙ here) in
+    bit-behind (n - 1) j
+    ∙ ap (λ (m : ℕ). word_bit m j) {x = (n - 1) / 2} {y = n / 2} (omega arith)
+    ∙ sym (bit-behind n j)
+    ∙ sym (and-true (word_bit n (suc j)))
+    ∙ ap (λ (t : Bool). word_bit n (suc j) && not t) (sym (eqb-suc-zero j))
+pred-bits (suc k) n zero none here from = absurd (not-suc-le-zero from)
+pred-bits (suc k) n (suc j) none here from =
+    let even = eqb-false (n % 2) 1 (sym (lowest n) ∙ none 0 (omega arith)) in
+    let some = has-bit (n / 2) k (sym (bit-behind n k) ∙ here) in
+    bit-behind (n - 1) j
+    ∙ ap (λ (m : ℕ). word_bit m j) {x = (n - 1) / 2} {y = n / 2 - 1} (omega arith)
+    ∙ pred-bits k (n / 2) j (λ i low. sym (bit-behind n i) ∙ none (suc i) (omega arith)) (sym (bit-behind n k) ∙ here) (le_of_suc-le-suc from)
+    ∙ ap₂ (λ (s t : Bool). s && not t) (sym (bit-behind n j)) (sym (eqb-suc-suc j k))
+
+-- a word and one less: the word without its lowest bit
+pub lowest-goes : (n k : ℕ) → ((i : ℕ) → i < k → word_bit n i ≡ false) → word_bit n k ≡ true → (j : ℕ)
+    → word_bit (bit_and n (n - 1)) j ≡ (word_bit n j && not (eqb j k))
+lowest-goes n k none here j = bit-and n (n - 1) j ∙ by (below-or-from j k)
+  where
+    twice : (s t : Bool) → (s && (s && t)) ≡ (s && t)
+    twice true t = refl
+    twice false t = refl
+
+    by : (j < k) ⊎ (k ≤ j) → (word_bit n j && word_bit (n - 1) j) ≡ (word_bit n j && not (eqb j k))
+    by (inl low) = ap (λ (t : Bool). t && word_bit (n - 1) j) (none j low) ∙ ap (λ (t : Bool). t && not (eqb j k)) (sym (none j low))
+    by (inr from) = ap (λ (t : Bool). word_bit n j && t) (pred-bits k n j none here from) ∙ twice (word_bit n j) (not (eqb j k))

@@ -1,9 +1,8 @@
 -- Sets of bytes as rows of two words: a byte put into one, the next one in it, and which bytes are to be tried.
-use Rattle.std.proofs.Common.{ℕ, ◌+◌, ◌-◌, ◌*◌, ◌/◌, ◌%◌, ◌^◌, ◌≤◌, ◌<◌, ◌≡◌, refl, sym, ◌∙◌, ap, ap₂, Bool, true, false, ◌||◌, List, [], ◌∷◌, ◌⊎◌, inl, inr, arith, eqb, length, get_or, set, get_or-set_same, get_or-set_other, eqb-true, ne_eqb}
+use Rattle.std.proofs.Common.{ℕ, ◌+◌, ◌-◌, ◌*◌, ◌/◌, ◌%◌, ◌^◌, ◌≤◌, ◌<◌, ◌≡◌, sym, ◌∙◌, ap, ap₂, Bool, false, ◌||◌, List, [], ◌∷◌, ◌⊎◌, inl, inr, arith, eqb, get_or, ne_eqb}
 use mathlib.Core.Bool.{or-false}
 use lib.Bits.{bit_or}
 use lib.Count.{count_trailing_zeros}
-use borrow.Author.Tests.{eqb-false}
 use Rattle.matching.specs.Machinery.Rows.{word_bit, row_bit}
 use Rattle.matching.proofs.MarkedRows.{row-at}
 use Rattle.std.specs.Prelude.{None}
@@ -36,54 +35,47 @@ low_bit row k low = row-at row 0 k low ∙ ap (row_bit row) {x = 64 * 0 + k} {y 
 pub high_bit : (row : List ℕ) (k : ℕ) → k < 64 → word_bit (get_or row 1 0) k ≡ row_bit row (64 + k)
 high_bit row k low = row-at row 1 k low ∙ ap (row_bit row) {x = 64 * 1 + k} {y = 64 + k} (omega arith)
 
--- a byte more
+-- a byte more, by the word that it is in
 
-pub adds-byte : (row : List ℕ) (b : ℕ) → length row ≡ 2 → b < 128
-    → Adds row (λ x. eqb x b) (set row (b / 64) (bit_or (get_or row (b / 64) 0) (2 ^ (b % 64))))
-unfolding row_bit
-adds-byte row b two low x few = by (eqb (x / 64) (b / 64)) refl
-  where
-    word : ℕ
-    word = bit_or (get_or row (b / 64) 0) (2 ^ (b % 64))
+pub adds-low : (row : List ℕ) (b : ℕ) → b < 64 → Adds row (λ x. eqb x b) (bit_or (get_or row 0 0) (2 ^ (b % 64)) ∷ get_or row 1 0 ∷ [])
+adds-low row b few =
+    two-words (bit_or (get_or row 0 0) (2 ^ (b % 64))) (get_or row 1 0) (λ x. row_bit row x || eqb x b)
+    (λ k low.
+    bit-or (get_or row 0 0) (2 ^ (b % 64)) k ∙ ap₂ ◌||◌ (low_bit row k low) (bit-power (b % 64) k ∙ ap (eqb k) {x = b % 64} {y = b} (omega arith)))
+    (λ k low. high_bit row k low ∙ sym (or-false (row_bit row (64 + k))) ∙ ap (λ (t : Bool). row_bit row (64 + k) || t) (sym (ne_eqb (64 + k) b (λ w. omega arith))))
 
-    by : (t : Bool) → eqb (x / 64) (b / 64) ≡ t → row_bit (set row (b / 64) word) x ≡ (row_bit row x || eqb x b)
-    by true e =
-        let here = eqb-true (x / 64) (b / 64) e in
-        ap (λ (i : ℕ). word_bit (get_or (set row (b / 64) word) i 0) (x % 64)) here
-        ∙ ap (λ (w : ℕ). word_bit w (x % 64)) (get_or-set_same row (b / 64) word 0 (omega arith))
-        ∙ bit-or (get_or row (b / 64) 0) (2 ^ (b % 64)) (x % 64)
-        ∙ ap₂ ◌||◌
-        (ap (λ (i : ℕ). word_bit (get_or row i 0) (x % 64)) (sym here))
-        (bit-power (b % 64) (x % 64) ∙ eqb_same (x % 64) (b % 64) x b (λ w. omega arith) (λ w. omega arith))
-    by false e =
-        let other = eqb-false (x / 64) (b / 64) e in
-        ap (λ (w : ℕ). word_bit w (x % 64)) (get_or-set_other row (b / 64) (x / 64) word 0 other)
-        ∙ sym (or-false (row_bit row x))
-        ∙ ap (λ (t : Bool). row_bit row x || t) (sym (ne_eqb x b (λ w. other (ap (λ (n : ℕ). n / 64) w))))
+pub adds-high : (row : List ℕ) (b : ℕ) → 64 ≤ b → b < 128 → Adds row (λ x. eqb x b) (get_or row 0 0 ∷ bit_or (get_or row 1 0) (2 ^ (b % 64)) ∷ [])
+adds-high row b from few =
+    two-words (get_or row 0 0) (bit_or (get_or row 1 0) (2 ^ (b % 64))) (λ x. row_bit row x || eqb x b)
+    (λ k low. low_bit row k low ∙ sym (or-false (row_bit row k)) ∙ ap (λ (t : Bool). row_bit row k || t) (sym (ne_eqb k b (λ w. omega arith))))
+    (λ k low.
+    bit-or (get_or row 1 0) (2 ^ (b % 64)) k
+    ∙ ap₂ ◌||◌ (high_bit row k low) (bit-power (b % 64) k ∙ eqb_same k (b % 64) (64 + k) b (λ w. omega arith) (λ w. omega arith)))
 
 -- none
 pub adds_none : (row : List ℕ) (f : ℕ → Bool) → ((x : ℕ) → x < 128 → f x ≡ false) → Adds row f row
 adds_none row f none x few = sym (or-false (row_bit row x)) ∙ ap (λ (t : Bool). row_bit row x || t) (sym (none x few))
 
--- sets built from the empty one: no byte, the bytes that were added, and those of which something else holds
+-- the same bytes, said otherwise
+pub adds-as : (row more : List ℕ) (f g : ℕ → Bool) → Adds row f more → ((x : ℕ) → x < 128 → f x ≡ g x) → Adds row g more
+adds-as row more f g adds said x few = adds x few ∙ ap (λ (t : Bool). row_bit row x || t) (said x few)
 
+-- some bytes, then others
+pub adds-both : (row more all : List ℕ) (f g h : ℕ → Bool) → Adds row f more → Adds more g all
+    → ((x : ℕ) → ((f x ≡ false) × (g x ≡ h x)) ⊎ ((g x ≡ false) × (f x ≡ h x))) → Adds row h all
+adds-both row more all f g h one two parts x few =
+    two x few ∙ ap (λ (t : Bool). t || g x) (one x few) ∙ by (parts x)
+  where
+    by : ((f x ≡ false) × (g x ≡ h x)) ⊎ ((g x ≡ false) × (f x ≡ h x)) → ((row_bit row x || f x) || g x) ≡ (row_bit row x || h x)
+    by (inl e) = ap₂ (λ (s t : Bool). (row_bit row x || s) || t) e.0 e.1 ∙ ap (λ (t : Bool). t || h x) (or-false (row_bit row x))
+    by (inr e) = ap₂ (λ (s t : Bool). (row_bit row x || s) || t) e.1 e.0 ∙ or-false (row_bit row x || h x)
+
+-- what is put into no byte is all that the set has
 abbrev pub empty : List ℕ
 empty = 0 ∷ 0 ∷ []
 
-pub set-none : (f : ℕ → Bool) → ((x : ℕ) → x < 128 → f x ≡ false) → SetOf f empty
-set-none f none x few = row_zero 2 x ∙ sym (none x few)
-
-pub set-added : (f g : ℕ → Bool) (row : List ℕ) → Adds empty f row → ((x : ℕ) → x < 128 → f x ≡ g x) → SetOf g row
-set-added f g row adds said x few = adds x few ∙ ap (λ (t : Bool). t || f x) (row_zero 2 x) ∙ said x few
-
-pub set-both : (f g h : ℕ → Bool) (row all : List ℕ) → Adds empty f row → Adds row g all
-    → ((x : ℕ) → ((f x ≡ false) × (g x ≡ h x)) ⊎ ((g x ≡ false) × (f x ≡ h x))) → SetOf h all
-set-both f g h row all one two parts x few =
-    two x few ∙ ap (λ (t : Bool). t || g x) (one x few ∙ ap (λ (t : Bool). t || f x) (row_zero 2 x)) ∙ by (parts x)
-  where
-    by : ((f x ≡ false) × (g x ≡ h x)) ⊎ ((g x ≡ false) × (f x ≡ h x)) → (f x || g x) ≡ h x
-    by (inl e) = ap₂ ◌||◌ e.0 e.1
-    by (inr e) = ap₂ ◌||◌ e.1 e.0 ∙ or-false (h x)
+pub set-added : (f : ℕ → Bool) (row : List ℕ) → Adds empty f row → SetOf f row
+set-added f row adds x few = adds x few ∙ ap (λ (t : Bool). t || f x) (row_zero 2 x)
 
 -- the next bit of a word
 

@@ -1,11 +1,17 @@
 -- The bytes that positions name, bit by bit of a word of a row and word by word.
-use Rattle.std.proofs.Common.{ℕ, ◌+◌, ◌-◌, ◌*◌, ◌≤◌, ◌<◌, ◌≡◌, ◌∙◌, ap, true, List, ◌⊎◌, inl, inr, arith, get_or}
+use Rattle.std.proofs.Common.{ℕ, ◌+◌, ◌-◌, ◌*◌, ◌≤◌, ◌<◌, ◌≡◌, ◌∙◌, ap, true, false, List, ◌⊎◌, inl, inr, arith, get_or}
 use Rattle.matching.specs.Machinery.Codes.{takes_byte}
-use Rattle.matching.specs.Machinery.Rows.{row_bit}
+use Rattle.matching.specs.Machinery.Rows.{word_bit, row_bit}
 use Rattle.matching.proofs.MarkedRows.{row-at}
 use Rattle.states.specs.Machinery.Rows.{codes_at}
 use Rattle.states.specs.Machinery.Bytes.{NamesWord, Names}
 use Rattle.states.proofs.Below.{below-or-from}
+
+-- a set has all that another has, and the bytes that positions of a word take by name, of those whose bits are not left
+pub record NamesBut (words : List ℕ) (from word left : ℕ) (before after : List ℕ) : Type 0 where
+  pub kept : (x : ℕ) → x < 128 → row_bit before x ≡ true → row_bit after x ≡ true
+  pub names :
+      (k x : ℕ) → k < 64 → word_bit word k ≡ true → word_bit left k ≡ false → x < 128 → takes_byte (get_or words (codes_at + from + k) 0) x ≡ true → row_bit after x ≡ true
 
 -- a word more
 pub names_more : (words row named more : List ℕ) (i : ℕ) → Names words row (64 * i) named → NamesWord words (i * 64) (get_or row i 0) named more 64

@@ -20,12 +20,19 @@ impl ByteSet {
     pub fn with(self, b: u8) -> ByteSet
         ensures { Adds self.words (λ x. eqb x b) result.words }
     {
-        if 127 < b {
-            return self;
+        let [low, high] = self.words;
+        let bit = 1u64 << (b % 64);
+        if b < 64 {
+            ByteSet {
+                words: [low | bit, high],
+            }
+        } else if b < 128 {
+            ByteSet {
+                words: [low, high | bit],
+            }
+        } else {
+            self
         }
-        let mut words = self.words;
-        words[usize::from(b / 64)] |= 1u64 << (b % 64);
-        ByteSet { words }
     }
 
     /// The lowest byte of strings from one on.

@@ -1,22 +1,39 @@
 // The bytes that positions take by name: all others lead alike from the positions in front of them.
-ghost use Rattle.std.specs.Prelude.{◌≡◌, ◌*◌, ◌+◌, ◌≤◌, ◌-◌, ℕ, eqb, length, IfSome};
+ghost use Rattle.std.specs.Prelude.{◌≡◌, ◌*◌, ◌+◌, ◌≤◌, ◌<◌, ◌-◌, ℕ, eqb, length, IfSome};
 ghost use Rattle.std.specs.Iterator.{at_most};
 ghost use Rattle.matching.specs.Machinery.Codes.{takes_byte};
 ghost use Rattle.matching.specs.Symbols.{fold_byte};
 ghost use Rattle.states.specs.Machinery.Rows.{taken_at};
-ghost use Rattle.states.specs.Machinery.Bytes.{SetOf, NextBit, NamesWord, Names};
+ghost use Rattle.states.specs.Machinery.Bytes.{Adds, SetOf, NextBit, Without, NamesWord, Names};
 
 use crate::bytes::{ByteSet, next_bit};
 use crate::limits::CODES;
 
-// The bytes that are this one without their case: none is a capital letter.
-fn folded(b: u8) -> ByteSet
-    ensures { SetOf (λ x. eqb (fold_byte x) b) result.words }
+// A set and the bytes that are this one without their case: none is a capital letter.
+fn with_folded(set: ByteSet, b: u8) -> ByteSet
+    ensures { Adds set.words (λ x. eqb (fold_byte x) b) result.words }
 {
     match b {
-        b'A'..=b'Z' => ByteSet::EMPTY,
-        b'a'..=b'z' => ByteSet::EMPTY.with(b).with(b - 32),
-        _ => ByteSet::EMPTY.with(b),
+        b'A'..=b'Z' => set,
+        b'a'..=b'z' => set.with(b).with(b - 32),
+        _ => set.with(b),
+    }
+}
+
+// A set and the bytes that a position with this code takes by name.
+fn with_named(set: ByteSet, code: u64) -> ByteSet
+    ensures { Adds set.words (takes_byte code) result.words }
+{
+    if code < 4 {
+        return set;
+    }
+    let Ok(b) = u8::try_from(code / 2 - 2) else {
+        return set;
+    };
+    if code % 2 == 0 {
+        set.with(b)
+    } else {
+        with_folded(set, b)
     }
 }
 
@@ -24,36 +41,25 @@ fn folded(b: u8) -> ByteSet
 pub(crate) fn named_by(code: u64) -> ByteSet
     ensures { SetOf (takes_byte code) result.words }
 {
-    if code < 4 {
-        return ByteSet::EMPTY;
-    }
-    let Ok(b) = u8::try_from(code / 2 - 2) else {
-        return ByteSet::EMPTY;
-    };
-    if code % 2 == 0 {
-        ByteSet::EMPTY.with(b)
-    } else {
-        folded(b)
-    }
+    with_named(ByteSet::EMPTY, code)
 }
 
-/// The places of the bits of a word that are set, ascending from one on.
+/// The places of the bits of a word that are set, ascending; left: the word without those that were passed.
 #[derive(Drop)]
 struct SetBits {
-    word: u64,
-    from: u32,
+    left: u64,
 }
 
 impl Iterator for SetBits {
     type Item = u32;
 
-    ghost next_gives = { λ s r t. NextBit s.word s.from r × (t.word ≡ s.word) × IfSome r (λ k. t.from ≡ k + 1) };
+    ghost next_gives = { λ s r t. NextBit s.left 0 r × IfSome r (λ k. Without s.left k t.left × (t.left < s.left)) };
 
-    ghost remaining = { λ s. at_most (64 - s.from) };
+    ghost remaining = { λ s. at_most s.left };
 
     fn next(&mut self) -> Option<u32> {
-        let k = next_bit(self.word, self.from)?;
-        self.from = k + 1;
+        let k = next_bit(self.left, 0)?;
+        self.left &= self.left - 1;
         Some(k)
     }
 }
@@ -65,8 +71,8 @@ fn name_word(words: &[u64], named: ByteSet, from: usize, word: u64) -> ByteSet
     ensures { NamesWord words.now from word named.words result.words 64 }
 {
     let mut all = named;
-    for k in (SetBits { word, from: 0 }) {
-        all = all | named_by(words[CODES + from + k as usize]);
+    for k in (SetBits { left: word }) {
+        all = with_named(all, words[CODES + from + k as usize]);
     }
     all
 }

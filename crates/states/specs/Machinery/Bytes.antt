@@ -1,5 +1,5 @@
 -- Sets of bytes as rows of two words: what is put into them, what is looked for in them, and which bytes are tried from a state.
-use Rattle.std.specs.Prelude.{ℕ, ◌+◌, ◌≤◌, ◌<◌, ◌≡◌, Bool, true, false, not, ◌&&◌, ◌||◌, List, ◌⊎◌, Option, None, Some, get_or}
+use Rattle.std.specs.Prelude.{ℕ, ◌+◌, ◌≤◌, ◌<◌, ◌≡◌, Bool, true, false, not, ◌&&◌, ◌||◌, List, ◌⊎◌, Option, None, Some, eqb, get_or}
 use Rattle.matching.specs.Machinery.Codes.{takes_byte}
 use Rattle.matching.specs.Machinery.Rows.{word_bit, row_bit}
 use Rattle.states.specs.Machinery.Rows.{codes_at, IsByte}
@@ -37,6 +37,10 @@ Next f from bound (Some r) = Lowest f from bound r
 -- the lowest bit of a word, from one on, that is set
 abbrev pub NextBit : ℕ → ℕ → Option ℕ → Type 0
 NextBit word from r = Next (word_bit word) from 64 r
+
+-- a word without one of its bits
+abbrev pub Without : ℕ → ℕ → ℕ → Type 0
+Without word k r = (j : ℕ) → j < 64 → word_bit r j ≡ (word_bit word j && not (eqb j k))
 
 -- the lowest byte of a set, from one on, that is no more than the last byte of strings
 abbrev pub NextByte : List ℕ → ℕ → Option ℕ → Type 0

@@ -1,7 +1,6 @@
--- The bits before the iterator's place are done: that is the invariant.
-use Rattle.std.proofs.Common.{◌≡◌}
-use Rattle.states.specs.Machinery.Bytes.{NamesWord}
+-- The bytes of the bits that are not left are named: that is the invariant.
+use Rattle.states.proofs.NamedBytes.{NamesBut}
 use Rattle.states.proofs.named.name_word.Given as goal
 
 abbrev pub invariant-loop-k : goal.invariant-loop-k
-invariant-loop-k l = (l.k-iterator.word ≡ l.word) × NamesWord l.words l.from l.word l.initial.all.words l.all.words l.k-iterator.from
+invariant-loop-k l = NamesBut l.words l.from l.word l.k-iterator.left l.initial.all.words l.all.words
