@@ -30,9 +30,13 @@ pub(crate) fn place_from(text: &[u8], from: Mark) -> usize
 fn at_name<N: Name>(like: N, depth: usize, text: &[u8], from: usize) -> ControlFlow<N, usize>
     ensures { moved_of N.index (Some result) ≡ seek_turn N.kind_of N.slot_of (N.slot_of (suc (N.index like))) depth E.Name (content_of (drop from text.now)) }
 {
+    // What is named deeper inside is no member of this object, and not read.
+    if depth != 0 {
+        return ControlFlow::Continue(depth);
+    }
     match N::named(text, from) {
         Some(name) => {
-            if depth == 0 && name.slot() == like.slot() {
+            if name.slot() == like.slot() {
                 ControlFlow::Break(name)
             } else {
                 ControlFlow::Continue(depth)
