@@ -5,6 +5,7 @@ ghost use Rattle.std.specs.Prelude.{◌≤◌};
 use cases::same::are_all;
 use cases::text::part_of;
 use comparing::compare::{gap, gap_count};
+use pairs::print::numbers_of;
 use pairs::question::{ONES, print_counting, print_showing};
 
 // Stands in no shown value.
@@ -38,7 +39,7 @@ fn count_in<const WORDS: usize>(name: &[u8], first: &[u8], second: &[u8])
     let mut words = [ONES; WORDS];
     let answer = gap_count(&mut words, first, second);
     io::write_all(1, name);
-    print_counting(answer);
+    print_counting(answer.map_err(numbers_of));
     print_words(&words);
     io::write_all(1, b"\n");
 }
@@ -51,7 +52,7 @@ fn show_in<const WORDS: usize, const BYTES: usize>(name: &[u8], first: &[u8], se
     let mut values = [FILLING; BYTES];
     let answer = gap(&mut words, first, second, k, &mut values);
     io::write_all(1, name);
-    print_showing(answer, &values);
+    print_showing(answer.map_err(numbers_of), &values);
     print_words(&words);
     print_values(&values);
     io::write_all(1, b"\n");

@@ -19,7 +19,7 @@ fn word_of(answer: Result<Verdict, Refusal>) -> &'static [u8] {
 fn print_answer(answer: Result<Verdict, Refusal>) {
     io::write_all(1, word_of(answer));
     if let Err(refusal) = answer {
-        print_refusal(refusal);
+        print_refusal(u8::from(refusal.reason), refusal.place);
     }
     io::write_all(1, b"\n");
 }

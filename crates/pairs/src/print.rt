@@ -1,13 +1,38 @@
 // What came out of a question, as a part of a line.
+ghost use Rattle.std.specs.Prelude.{◌≡◌};
+ghost use Rattle.refusals.specs.Numbers.{number_of};
+ghost use Rattle.comparing.specs.Answers.{table_of};
+
 use cases::print::print_number;
 use cases::same::are_all;
 use cases::text::{first_bytes, part_of};
 use comparing::answers::{Refused, Shape};
 
-pub(crate) fn print_refused(refused: Refused) {
+/// A refusal by its numbers: which one, of which table (1, 2, or 0 for the comparison), and its place.
+#[derive(Clone, Copy, Debug, PartialEq, Eq)]
+pub struct Numbers {
+    pub number: u8,
+    pub table: u8,
+    pub place: usize,
+}
+
+/// The numbers of a refused comparison.
+pub fn numbers_of(refused: Refused) -> Numbers
+    ensures number { result.number ≡ number_of refused.reason }
+    ensures table { result.table ≡ table_of refused.table }
+    ensures place { result.place ≡ refused.place }
+{
+    Numbers {
+        number: u8::from(refused.reason),
+        table: u8::from(refused.table),
+        place: refused.place,
+    }
+}
+
+pub(crate) fn print_refused(refused: Numbers) {
     io::write_all(1, b" refused");
-    print_number(usize::from(u8::from(refused.reason)));
-    print_number(usize::from(u8::from(refused.table)));
+    print_number(usize::from(refused.number));
+    print_number(usize::from(refused.table));
     print_number(refused.place);
 }
 
@@ -43,8 +68,8 @@ pub(crate) fn print_shape(shape: Shape, values: &[u8]) {
         (b" k2=", shape.vpce),
         (b" k3=", shape.referer),
     ];
-    for ((name, size), part) in columns.iter().zip(values.chunks(512)) {
-        print_column(name, part, *size);
+    for (i, (name, size)) in columns.iter().enumerate() {
+        print_column(name, part_of(values, 512 * i, 512 * i + 512), *size);
     }
     if let Some(address) = shape.address {
         io::write_all(1, b" ip=");

@@ -1,5 +1,5 @@
 // The two questions about a pair of tables, each with a workspace of its own that is full of ones before and must be zero afterwards.
-use crate::print::{print_refused, print_shape};
+use crate::print::{Numbers, numbers_of, print_refused, print_shape};
 use cases::same::are_all;
 use comparing::answers::{Refused, Shape};
 use comparing::compare::{gap, gap_count};
@@ -31,7 +31,8 @@ fn showing_of(first: &[u8], second: &[u8], k: u64, values: &mut [u8]) -> Result<
 }
 
 /// What came out of a question for a gap.
-pub fn print_showing(answer: Result<Shape, Refused>, values: &[u8]) {
+// stays: what may not change print_showing, print_counting: they print any numbers.
+pub fn print_showing(answer: Result<Shape, Numbers>, values: &[u8]) {
     match answer {
         Ok(shape) => print_shape(shape, values),
         Err(refused) => print_refused(refused),
@@ -39,7 +40,7 @@ pub fn print_showing(answer: Result<Shape, Refused>, values: &[u8]) {
 }
 
 /// What came out of a comparison.
-pub fn print_counting(answer: Result<u64, Refused>) {
+pub fn print_counting(answer: Result<u64, Numbers>) {
     match answer {
         Ok(count) => {
             io::write_all(1, b" gaps ");
@@ -55,7 +56,7 @@ fn run_gap(first: &[u8], second: &[u8], k: u64) {
     let answer = showing_of(first, second, k, &mut values);
     io::write_all(1, b"  ");
     io::print_decimal(1, k);
-    print_showing(answer, &values);
+    print_showing(answer.map_err(numbers_of), &values);
     io::write_all(1, b"\n");
 }
 
@@ -69,7 +70,7 @@ fn run_gaps(first: &[u8], second: &[u8], count: u64) {
 pub(crate) fn run_pair(name: &[u8], first: &[u8], second: &[u8]) {
     let answer = counting_of(first, second);
     io::write_all(1, name);
-    print_counting(answer);
+    print_counting(answer.map_err(numbers_of));
     io::write_all(1, b"\n");
     run_gaps(first, second, answer.unwrap_or(0));
 }

@@ -35,7 +35,7 @@ pub(crate) fn print_answer(answer: Result<usize, Refusal>, table: &[u8]) {
         }
         Err(refusal) => {
             io::write_all(1, b" refused");
-            print_refusal(refusal);
+            print_refusal(u8::from(refusal.reason), refusal.place);
             if !are_all(table, FILLING) {
                 io::write_all(1, b"; buffer changed");
             }

@@ -43,7 +43,7 @@ fn print_answer(answer: Result<Writer, Refusal>) {
         }
         Err(refusal) => {
             io::write_all(1, b" refused");
-            print_refusal(refusal);
+            print_refusal(u8::from(refusal.reason), refusal.place);
         }
     }
 }

@@ -14,7 +14,7 @@ fn print_read(answer: Result<u8, Refusal>) {
         }
         Err(refusal) => {
             io::write_all(1, b" refused");
-            print_refusal(refusal);
+            print_refusal(u8::from(refusal.reason), refusal.place);
         }
     }
 }
@@ -34,7 +34,7 @@ fn print_walked(table: &[u8], buffer: &[u8], walked: Result<Walked, Refusal>) {
         Ok(Walked::Written(size)) => print_written(table, buffer, size),
         Err(refusal) => {
             io::write_all(1, b"; writer refused");
-            print_refusal(refusal);
+            print_refusal(u8::from(refusal.reason), refusal.place);
         }
         Ok(Walked::Stopped(place)) => {
             io::write_all(1, b"; stopped at");
