@@ -5,7 +5,7 @@ ghost use Rattle.json_text.specs.Bytes.{is_blank, is_digit, is_hex, is_exponent,
 pub(crate) fn is_blank(byte: u8) -> bool
     ensures { result ≡ is_blank byte }
 {
-    byte <= b' ' && matches!(byte, b' ' | b'\t' | b'\n' | b'\r')
+    matches!(byte, b' ' | b'\t' | b'\n' | b'\r')
 }
 
 pub(crate) fn is_digit(byte: u8) -> bool
