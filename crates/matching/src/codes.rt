@@ -31,12 +31,10 @@ fn byte_code(fold: bool, b: u8) -> u64
 pub(crate) fn symbol_code(wild: bool, fold: bool, b: u8) -> u64
     ensures { result ≡ symbol_code fold (symbol_of wild b) }
 {
-    if wild && b == STAR {
-        BEHIND_STAR
-    } else if wild && b == ONE {
-        BEHIND_ONE
-    } else {
-        byte_code(fold, b)
+    match b {
+        STAR if wild => BEHIND_STAR,
+        ONE if wild => BEHIND_ONE,
+        _ => byte_code(fold, b),
     }
 }
 
