@@ -162,12 +162,9 @@ has-bit (suc n) k e = omega arith
 
 -- one less than a word, from its lowest bit that is set on: that bit goes
 pub pred-bits : (k n j : ℕ) → ((i : ℕ) → i < k → word_bit n i ≡ false) → word_bit n k ≡ true → k ≤ j → word_bit (n - 1) j ≡ (word_bit n j && not (eqb j k))
-pred-bits zero n zero none here from = odd (n % 2) refl (sym (lowest n) ∙ here)
-  where
-    odd : (r : ℕ) → n % 2 ≡ r → eqb (n % 2) 1 ≡ true → word_bit (n - 1) 0 ≡ (word_bit n 0 && false)
-    odd r is one =
-        let last = eqb-true (n % 2) 1 one in
-        lowest (n - 1) ∙ ap (λ (m : ℕ). eqb m 1) {x = (n - 1) % 2} {y = 0} (omega arith) ∙ sym (and-false (word_bit n 0))
+pred-bits zero n zero none here from =
+    let last = eqb-true (n % 2) 1 (sym (lowest n) ∙ here) in
+    lowest (n - 1) ∙ ap (λ (m : ℕ). eqb m 1) {x = (n - 1) % 2} {y = 0} (omega arith) ∙ sym (and-false (word_bit n 0))
 pred-bits zero n (suc j) none here from =
     let last = eqb-true (n % 2) 1 (sym (lowest n) ∙ here) in
     bit-behind (n - 1) j

@@ -1,10 +1,10 @@
 // Sets of bytes below 128, and which bytes of strings are tried from a state.
 ghost use Rattle.std.specs.Prelude.{◌≡◌, ◌+◌, ◌-◌, eqb, IfSome};
 ghost use Rattle.std.specs.Iterator.{at_most};
-ghost use Rattle.states.specs.Machinery.Bytes.{Adds, Others, Common, Both, NextBit, NextByte, ToTry};
+ghost use Rattle.states.specs.Machinery.Bytes.{Adds, Others, Common, NextBit, NextByte, ToTry};
 
 use crate::limits::{FIRST_BYTE, LAST_BYTE};
-use std::ops::{BitAnd, BitOr, Not};
+use std::ops::{BitAnd, Not};
 
 /// A set of bytes below 128: bit b of the two words says whether byte b is among them.
 #[derive(Clone, Copy)]
@@ -81,19 +81,6 @@ impl BitAnd for ByteSet {
         let [low, high] = self.words;
         ByteSet {
             words: [low & other.words[0], high & other.words[1]],
-        }
-    }
-}
-
-impl BitOr for ByteSet {
-    type Output = ByteSet;
-
-    ghost bitor_gives = { λ set other result. Both set.words other.words result.words };
-
-    fn bitor(self, other: ByteSet) -> ByteSet {
-        let [low, high] = self.words;
-        ByteSet {
-            words: [low | other.words[0], high | other.words[1]],
         }
     }
 }

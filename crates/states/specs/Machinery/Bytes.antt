@@ -12,15 +12,12 @@ Adds set f r = (x : ℕ) → x < 128 → row_bit r x ≡ (row_bit set x || f x)
 abbrev pub SetOf : (ℕ → Bool) → List ℕ → Type 0
 SetOf f r = (x : ℕ) → x < 128 → row_bit r x ≡ f x
 
--- a set has the bytes that another has not; those that two have both; those that one of two has
+-- a set has the bytes that another has not; those that two have both
 abbrev pub Others : List ℕ → List ℕ → Type 0
 Others set r = (x : ℕ) → x < 128 → row_bit r x ≡ not (row_bit set x)
 
 abbrev pub Common : List ℕ → List ℕ → List ℕ → Type 0
 Common one two r = (x : ℕ) → x < 128 → row_bit r x ≡ (row_bit one x && row_bit two x)
-
-abbrev pub Both : List ℕ → List ℕ → List ℕ → Type 0
-Both one two r = (x : ℕ) → x < 128 → row_bit r x ≡ (row_bit one x || row_bit two x)
 
 -- r is the lowest number from one on, and below a bound, of which f holds
 pub record Lowest (f : ℕ → Bool) (from bound r : ℕ) : Type 0 where

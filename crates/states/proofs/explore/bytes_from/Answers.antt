@@ -1,5 +1,5 @@
 -- No position ahead names a byte that is not tried, or the byte follows another.
-use Rattle.std.proofs.Common.{ℕ, ◌+◌, ◌*◌, List, ◌∙◌, sym, subst, arith}
+use Rattle.std.proofs.Common.{ℕ, ◌*◌, List, ◌∙◌, sym, subst, arith}
 use Rattle.states.specs.Machinery.Bytes.{Names, ToTry}
 use Rattle.states.proofs.TakenRows.{pair-at}
 use Rattle.matching.specs.Machinery.Words.{ahead_row}
