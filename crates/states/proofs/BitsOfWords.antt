@@ -5,8 +5,8 @@ use mathlib.Core.Bool.{false≢true, and-true}
 use Rattle.std.proofs.Math.Bool.{and-false}
 use borrow.Author.Tests.{eqb-false}
 use native.Mathlib.Nat.{pow-succ', zero-div}
-use lib.Bits.{bit_and, bit_or, and_step, or_step, and_shr, or_shr}
-use lib.Count.{count_trailing_zeros, under}
+use lib.Bits.{bit_and, bit_or, and_step, or_step, and_shr, or_shr, and_self}
+use lib.Count.{count_trailing_zeros, under, ones, ones_step}
 use lib.Dec.{eqb-zero-suc, eqb-suc-zero, eqb-suc-suc}
 use Rattle.matching.specs.Machinery.Rows.{word_bit}
 use Rattle.matching.proofs.Rows.{bit-behind}
@@ -193,3 +193,24 @@ lowest-goes n k none here j = bit-and n (n - 1) j ∙ by (below-or-from j k)
     by : (j < k) ⊎ (k ≤ j) → (word_bit n j && word_bit (n - 1) j) ≡ (word_bit n j && not (eqb j k))
     by (inl low) = ap (λ (t : Bool). t && word_bit (n - 1) j) (none j low) ∙ ap (λ (t : Bool). t && not (eqb j k)) (sym (none j low))
     by (inr from) = ap (λ (t : Bool). word_bit n j && t) (pred-bits k n j none here from) ∙ twice (word_bit n j) (not (eqb j k))
+
+-- the bits of a word that are set, by its lowest and what is behind it
+bits-counted : (n m d : ℕ) → d < 2 → n ≡ m * 2 + d → ones n ≡ d + ones m
+bits-counted n m d low is = ones_step n ∙ ap₂ (λ (r q : ℕ). r + ones q) {x = n % 2} {y = d} {u = n / 2} {v = m} (omega arith) (omega arith)
+
+-- a word without its lowest bit has one fewer
+pub one-fewer : (n k : ℕ) → ((i : ℕ) → i < k → word_bit n i ≡ false) → word_bit n k ≡ true → ones (bit_and n (n - 1)) + 1 ≡ ones n
+one-fewer n zero none here =
+    let last = eqb-true (n % 2) 1 (sym (lowest n) ∙ here) in
+    let halves = ap (bit_and (n / 2)) {x = (n - 1) / 2} {y = n / 2} (omega arith) ∙ and_self (n / 2) in
+    let digits = ap₂ min {x = n % 2} {y = 1} {u = (n - 1) % 2} {v = 0} last (omega arith) in
+    let without = and_step n (n - 1) ∙ ap₂ (λ (w d : ℕ). w * 2 + d) halves digits in
+    omega (arith, bits-counted (bit_and n (n - 1)) (n / 2) 0 (omega arith) without, bits-counted n (n / 2) 1 (omega arith) (omega arith))
+one-fewer n (suc k) none here =
+    let even = eqb-false (n % 2) 1 (sym (lowest n) ∙ none 0 (omega arith)) in
+    let some = has-bit (n / 2) k (sym (bit-behind n k) ∙ here) in
+    let halves = ap (bit_and (n / 2)) {x = (n - 1) / 2} {y = n / 2 - 1} (omega arith) in
+    let digits = ap₂ min {x = n % 2} {y = 0} {u = (n - 1) % 2} {v = 1} (omega arith) (omega arith) in
+    let without = and_step n (n - 1) ∙ ap₂ (λ (w d : ℕ). w * 2 + d) halves digits in
+    let fewer = one-fewer (n / 2) k (λ i low. sym (bit-behind n i) ∙ none (suc i) (omega arith)) (sym (bit-behind n k) ∙ here) in
+    omega (arith, fewer, bits-counted (bit_and n (n - 1)) (bit_and (n / 2) (n / 2 - 1)) 0 (omega arith) without, bits-counted n (n / 2) 0 (omega arith) (omega arith))

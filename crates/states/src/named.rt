@@ -1,5 +1,5 @@
 // The bytes that positions take by name: all others lead alike from the positions in front of them.
-ghost use Rattle.std.specs.Prelude.{◌≡◌, ◌*◌, ◌+◌, ◌≤◌, ◌<◌, ◌-◌, ℕ, eqb, length, IfSome};
+ghost use Rattle.std.specs.Prelude.{◌≡◌, ◌*◌, ◌+◌, ◌≤◌, ◌<◌, ◌-◌, ℕ, eqb, length, count_ones, MatchOption};
 ghost use Rattle.std.specs.Iterator.{at_most};
 ghost use Rattle.matching.specs.Machinery.Codes.{takes_byte};
 ghost use Rattle.matching.specs.Symbols.{fold_byte};
@@ -53,9 +53,9 @@ struct SetBits {
 impl Iterator for SetBits {
     type Item = u32;
 
-    ghost next_gives = { λ s r t. NextBit s.left 0 r × IfSome r (λ k. Without s.left k t.left × (t.left < s.left)) };
+    ghost next_gives = { λ s r t. NextBit s.left 0 r × MatchOption r (t.left ≡ s.left) (λ k. Without s.left k t.left × (t.left < s.left) × (count_ones t.left + 1 ≡ count_ones s.left)) };
 
-    ghost remaining = { λ s. at_most s.left };
+    ghost remaining = { λ s. at_most (count_ones s.left) };
 
     fn next(&mut self) -> Option<u32> {
         let k = next_bit(self.left, 0)?;
@@ -87,4 +87,20 @@ pub(crate) fn name_positions(words: &[u64], row: [u64; 8], used: usize) -> ByteS
         named = name_word(words, named, i * 64, row[i]);
     }
     named
+}
+
+#[cfg(test)]
+mod tests {
+    use super::*;
+
+    #[test]
+    fn each_bit_comes_once_and_then_none(rt: HostRuntime) {
+        let mut bits = SetBits {
+            left: 0x8000_0000_0000_00A1,
+        };
+        for want in [Some(0), Some(5), Some(7), Some(63), None, None] {
+            assert_eq!(rt; bits.next(), want);
+        }
+        assert_eq!(rt; bits.left, 0);
+    }
 }
