@@ -13,6 +13,11 @@ pub record NamesBut (words : List ℕ) (from word left : ℕ) (before after : Li
   pub names :
       (k x : ℕ) → k < 64 → word_bit word k ≡ true → word_bit left k ≡ false → x < 128 → takes_byte (get_or words (codes_at + from + k) 0) x ≡ true → row_bit after x ≡ true
 
+-- what is left of a word: bits of it, and all that it has from one of them on
+pub record LeftOf (word left : ℕ) : Type 0 where
+  pub among : (k : ℕ) → k < 64 → word_bit left k ≡ true → word_bit word k ≡ true
+  pub passed : (j k : ℕ) → j < 64 → k < 64 → word_bit word j ≡ true → word_bit left j ≡ false → word_bit left k ≡ true → j < k
+
 -- a word more
 pub names_more : (words row named more : List ℕ) (i : ℕ) → Names words row (64 * i) named → NamesWord words (i * 64) (get_or row i 0) named more 64
     → Names words row (64 * (i + 1)) more
